@@ -6,8 +6,8 @@ use mathlib.Core.List.{List, [], _∷_, _++_}
 use Rattle.numbers.specs.Words.{Bytes, words}
 use Rattle.numbers.specs.Result.{Result, ok, refused, mapResult}
 use Rattle.pso.specs.Reader.{Pso, parsePso}
-use Rattle.pso_write.specs.Build.{Built, layout, build}
-use Rattle.pso_laws.specs.Demand3.{readBack}
+use Rattle.layout.specs.Build.{Built, layout, build}
+use Rattle.layout.specs.Demand3.{readBack}
 use Rattle.pso_laws.specs.Eval
 use Rattle.cases.specs.Check
 

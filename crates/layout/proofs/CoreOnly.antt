@@ -1,0 +1,78 @@
+-- A property of the core alone is kept by all actions, if the three that change the core keep it.
+-- Assumes nothing.
+use Prim.Native.Nat.{ℕ, suc, _+_}
+use mathlib.Core.Path.{_≡_, refl}
+use mathlib.Core.Bool.{Bool, true, false, cond, _&&_, false≢true}
+use mathlib.Core.Option.{Option, none, some}
+use lib.Dec.{leb}
+use lib.ListN.{length}
+use Rattle.numbers.specs.Words.{Bytes}
+use Rattle.numbers.specs.Result.{given, isSome}
+use Rattle.schema.specs.Defs.{StructDef}
+use Rattle.layout.specs.State
+use Rattle.layout.specs.State.{Core, State, Env, Out, done, stop, Remark, spot, file}
+use Rattle.layout.proofs.Keep.{Okay, Keeps, Prims}
+
+abbrev pub onCore : (Core → Type 0) → State → Type 0
+onCore Q s = Q (s .core)
+
+abbrev pub OkC : {A : Type 0} → (Core → Type 0) → Option (A × Core) → Type 0
+OkC Q none = Unit {0}
+OkC Q (some r) = Q (r .1)
+
+given-ok : {A : Type 0} (Q : Core → Type 0) (b : Bool) (r : A × Core) → (b ≡ true → Q (r .1)) → OkC Q (given b r)
+given-ok Q true r q = q refl
+given-ok Q false r q = tt
+
+both : (a b : Bool) → (a && b) ≡ true → (a ≡ true) × (b ≡ true)
+both true b e = (refl, e)
+both false b e = absurd (false≢true e)
+
+module _ (Q : Core → Type 0) where
+  settle-ok : {A : Type 0} (s : State) (e : ℕ) (o : Option (A × Core)) → OkC Q o → Okay (onCore Q) (State.settle s e o)
+  unfolding State.settle
+  settle-ok s e none q = tt
+  settle-ok s e (some r) q = q
+
+  cond-ok : (b : Bool) (o p : Out (Unit {0})) → Okay (onCore Q) o → Okay (onCore Q) p → Okay (onCore Q) (cond b o p)
+  cond-ok true o p ho hp = ho
+  cond-ok false o p ho hp = hp
+
+  pub c-remark : (r : Remark) → Keeps (onCore Q) (State.remark r)
+  unfolding Keeps State.remark
+  c-remark r s q = q
+
+  pub c-pay : (E : Env) (n : ℕ) → Keeps (onCore Q) (State.pay E n)
+  unfolding Keeps State.pay
+  c-pay E n s q = cond-ok (leb (s .charge + n) (E .chargeCap)) (done tt (State.withCharge (s .charge + n) s)) (stop 9 (s .events)) q tt
+
+  pub c-core : {A : Type 0} (f : Core → Option (A × Core)) (e : ℕ) → ((c : Core) → Q c → OkC Q (f c)) → Keeps (onCore Q) (State.onCore f e)
+  unfolding Keeps State.onCore
+  c-core f e h s q = settle-ok s e (f (s .core)) (h (s .core) q)
+
+  -- the item goes to a block that has a number, at a start that has a place in a pointer
+  pub addItemC-ok : (n : ℕ) (bs : Bytes) (c : Core)
+      → (leb (suc (spot n (length bs) (c .blocks) .before)) 4095 ≡ true → leb (spot n (length bs) (c .blocks) .start) 0xFFFFF ≡ true
+      → Q (file bs c (spot n (length bs) (c .blocks))))
+      → OkC Q (State.addItemC n bs c)
+  unfolding State.addItemC
+  addItemC-ok n bs c q =
+      let p = spot n (length bs) (c .blocks) in
+      given-ok {A = ℕ} Q (leb (suc (p .before)) 4095 && leb (p .start) 0xFFFFF) (State.pointerTo (suc (p .before)) (p .start), file bs c p)
+      (λ e. let t : (leb (suc (p .before)) 4095 ≡ true) × (leb (p .start) 0xFFFFF ≡ true) = both _ _ e in q (t .0) (t .1))
+
+  pub core-prims : (E : Env)
+      → ((n : ℕ) (d : StructDef) (c : Core) → E .defs .struct n ≡ some d → Q c → OkC Q (State.useStructC (d .name) c))
+      → ((n : ℕ) (c : Core) → isSome (E .defs .enum n) ≡ true → Q c → OkC Q (State.useEnumC n c))
+      → ((n : ℕ) (bs : Bytes) (c : Core)
+      → leb (suc (spot n (length bs) (c .blocks) .before)) 4095 ≡ true → leb (spot n (length bs) (c .blocks) .start) 0xFFFFF ≡ true
+      → Q c → Q (file bs c (spot n (length bs) (c .blocks))))
+      → Prims E (onCore Q)
+  unfolding State.useStruct State.useEnum State.addItem
+  core-prims E hs hu ha = record {
+    remark-keeps = c-remark;
+    pay-keeps = c-pay E;
+    struct-keeps = λ n d e. c-core (State.useStructC (d .name)) 0 (λ c q. hs n d c e q);
+    enum-keeps = λ n e. c-core (State.useEnumC n) 0 (λ c q. hu n c e q);
+    add-keeps = λ n bs. c-core (State.addItemC n bs) 10 (λ c q. addItemC-ok n bs c (λ a b. ha n bs c a b q));
+  }

@@ -1,0 +1,23 @@
+-- Laws of the layout.
+pub mod Grows
+pub mod Keep
+pub mod CoreOnly
+pub mod Tiling
+pub mod Reached
+pub mod Places
+pub mod Uses
+pub mod Follow
+pub mod Restrict
+pub mod Theorems
+pub mod Rebuild
+pub mod KeepNamed
+pub mod ReadDefs
+pub mod ReadSchema
+pub mod Ends
+pub mod Blocks
+pub mod Root
+pub mod ReadMap
+pub mod ReadBack
+pub mod Carried
+pub mod Whole
+pub mod Proved

@@ -1,0 +1,122 @@
+-- The items of each block tile it, in order of laying.
+-- Assumes nothing.
+use Prim.Native.Nat.{ℕ, zero, suc, _+_, _/_, _%_, _≤_, _<_}
+use native.Mathlib.Omega.{arith}
+use mathlib.Core.Path.{_≡_, refl, sym, _∙_, ap}
+use mathlib.Core.Bool.{Bool, true, false, cond, _&&_}
+use mathlib.Core.List.{List, [], _∷_, _++_, append-nil}
+use lib.Dec.{eqb, leb}
+use lib.ListN.{length}
+use borrow.Author.Tests.{eqb-true, eqb-false, leb-true}
+use Rattle.numbers.specs.Words.{Bytes}
+use Rattle.layout.specs.State.{Item, Block, Core, Env, Spot, spot, past, file, maxBlock, useStructC, useEnumC}
+use Rattle.layout.specs.Assemble.{itemsIn}
+use Rattle.layout.specs.Demand3.{ItemsTile, pointerOf}
+use Rattle.layout.proofs.Keep.{Prims}
+use Rattle.layout.proofs.CoreOnly.{onCore, core-prims}
+
+-- the length of the block that k blocks stand before; 0 where there is none
+unfoldable pub lenAt : ℕ → List Block → ℕ
+lenAt k [] = 0
+lenAt zero (b ∷ bs) = b .len
+lenAt (suc k) (b ∷ bs) = lenAt k bs
+
+-- items in blocks 1 to n, with a number and a start that a pointer can say
+abbrev pub AllIn : ℕ → List Item → Type 0
+AllIn n [] = Unit {0}
+AllIn n (i ∷ is) = (1 ≤ i .block) × (i .block ≤ n) × (i .block ≤ 4095) × (i .start ≤ 0xFFFFF) × AllIn n is
+
+pub record Tiled (c : Core) : Type 0 where
+  pub tiles : (k : ℕ) → ItemsTile 0 (itemsIn (suc k) (c .items)) (lenAt k (c .blocks))
+  pub within : AllIn (length (c .blocks)) (c .items)
+
+-- where an item goes
+
+record Good (need : ℕ) (bs : List Block) (p : Spot) : Type 0 where
+  start-is : p .start ≡ lenAt (p .before) bs
+  grown : lenAt (p .before) (p .blocks) ≡ lenAt (p .before) bs + need
+  others : (k : ℕ) → (p .before ≡ k → ⊥) → lenAt k (p .blocks) ≡ lenAt k bs
+  inside : p .before < length (p .blocks)
+  more : length bs ≤ length (p .blocks)
+
+here : (n need : ℕ) (b : Block) (bs : List Block) → Good need (b ∷ bs) (record { before = 0; start = b .len; blocks = (record { name = n; len = b .len + need }) ∷ bs })
+unfolding lenAt
+here n need b bs = record { start-is = refl; grown = refl; others = o; inside = omega arith; more = omega arith }
+  where
+    o : (k : ℕ) → (0 ≡ k → ⊥) → lenAt k ((record { name = n; len = b .len + need }) ∷ bs) ≡ lenAt k (b ∷ bs)
+    o zero h = absurd (h refl)
+    o (suc k) h = refl
+
+beyond : (need : ℕ) (b : Block) (bs : List Block) (p : Spot) → Good need bs p → Good need (b ∷ bs) (past b p)
+unfolding lenAt
+beyond need b bs p g = record { start-is = g .start-is; grown = g .grown; others = o; inside = omega (arith, g .inside); more = omega (arith, g .more) }
+  where
+    o : (k : ℕ) → (suc (p .before) ≡ k → ⊥) → lenAt k (b ∷ p .blocks) ≡ lenAt k (b ∷ bs)
+    o zero h = refl
+    o (suc k) h = g .others k (λ e. h (ap suc e))
+
+spot-good : (n need : ℕ) (bs : List Block) → Good need bs (spot n need bs)
+unfolding spot lenAt
+spot-good n need [] = record { start-is = refl; grown = omega arith; others = o; inside = omega arith; more = omega arith }
+  where
+    o : (k : ℕ) → (0 ≡ k → ⊥) → lenAt k ((record { name = n; len = need }) ∷ []) ≡ lenAt k []
+    o zero h = absurd (h refl)
+    o (suc k) h = refl
+spot-good n need (b ∷ bs) = go (eqb (b .name) n && leb (b .len + need) maxBlock) (spot-good n need bs)
+  where
+    go : (t : Bool) → Good need bs (spot n need bs)
+        → Good need (b ∷ bs) (cond t (record { before = 0; start = b .len; blocks = (record { name = n; len = b .len + need }) ∷ bs }) (past b (spot n need bs)))
+    go true g = here n need b bs
+    go false g = beyond need b bs (spot n need bs) g
+
+-- one more item
+
+all-snoc : (n m : ℕ) (is : List Item) (i : Item) → n ≤ m → AllIn n is → 1 ≤ i .block → i .block ≤ m → i .block ≤ 4095 → i .start ≤ 0xFFFFF
+    → AllIn m (is ++ (i ∷ []))
+all-snoc n m [] i h a o b c d = (o, b, c, d, tt)
+all-snoc n m (j ∷ is) i h a o b c d = (a .0, omega (arith, a .1), a .2, a .3, all-snoc n m is i h (a .4) o b c d)
+
+tile-snoc : (p e : ℕ) (is : List Item) (i : Item) → ItemsTile p is e → i .start ≡ e → ItemsTile p (is ++ (i ∷ [])) (e + length (i .bytes))
+tile-snoc p e [] i t h = (h ∙ sym t, ap (λ k. k + length (i .bytes)) t)
+tile-snoc p e (j ∷ is) i t h = (t .0, tile-snoc _ e is i (t .1) h)
+
+itemsIn-snoc : (k : ℕ) (is : List Item) (i : Item) → itemsIn k (is ++ (i ∷ [])) ≡ itemsIn k is ++ cond (eqb (i .block) k) (i ∷ []) []
+unfolding itemsIn
+itemsIn-snoc k [] i = refl
+itemsIn-snoc k (j ∷ is) i = go (eqb (j .block) k) (itemsIn-snoc k is i)
+  where
+    go : (b : Bool) → itemsIn k (is ++ (i ∷ [])) ≡ itemsIn k is ++ cond (eqb (i .block) k) (i ∷ []) []
+        → cond b (j ∷ itemsIn k (is ++ (i ∷ []))) (itemsIn k (is ++ (i ∷ []))) ≡ cond b (j ∷ itemsIn k is) (itemsIn k is) ++ cond (eqb (i .block) k) (i ∷ []) []
+    go true e = ap (λ l. j ∷ l) e
+    go false e = e
+
+tiled-file : (bs : Bytes) (c : Core) (p : Spot) → Good (length bs) (c .blocks) p → suc (p .before) ≤ 4095 → p .start ≤ 0xFFFFF → Tiled c → Tiled (file bs c p)
+unfolding file
+tiled-file bs c p g hb hs t =
+    record { tiles = tl; within = all-snoc (length (c .blocks)) (length (p .blocks)) (c .items) i (g .more) (t .within) (omega arith) (omega (arith, g .inside)) hb hs }
+  where
+    i : Item
+    i = record { block = suc (p .before); start = p .start; bytes = bs }
+
+    go : (k : ℕ) (b : Bool) → eqb (suc (p .before)) (suc k) ≡ b → ItemsTile 0 (itemsIn (suc k) (c .items) ++ cond b (i ∷ []) []) (lenAt k (p .blocks))
+    go k true e =
+        let q : p .before ≡ k = omega (arith, eqb-true (suc (p .before)) (suc k) e) in
+        rw (← q, g .grown) (tile-snoc 0 (lenAt (p .before) (c .blocks)) (itemsIn (suc (p .before)) (c .items)) i (t .tiles (p .before)) (g .start-is))
+    go k false e = rw (append-nil, g .others k (λ q. eqb-false (suc (p .before)) (suc k) e (ap suc q))) (t .tiles k)
+
+    tl : (k : ℕ) → ItemsTile 0 (itemsIn (suc k) (c .items ++ (i ∷ []))) (lenAt k (p .blocks))
+    tl k = rw itemsIn-snoc (go k (eqb (suc (p .before)) (suc k)) refl)
+
+pub tiled-prims : (E : Env) → Prims E (onCore Tiled)
+unfolding useStructC useEnumC
+tiled-prims E =
+    core-prims Tiled E (λ n d c e q. record { tiles = q .tiles; within = q .within }) (λ n c e q. record { tiles = q .tiles; within = q .within })
+    (λ n bs c a b q. tiled-file bs c _ (spot-good n (length bs) (c .blocks)) (leb-true _ _ a) (leb-true _ _ b) q)
+
+-- the number formed when an item is laid says its block and its start
+
+pub says-block : (i : Item) → i .block ≤ 4095 → pointerOf i % 4096 ≡ i .block
+says-block i h = omega arith
+
+pub says-start : (i : Item) → i .block ≤ 4095 → pointerOf i / 4096 ≡ i .start
+says-start i h = omega arith

@@ -1,0 +1,147 @@
+-- The file carries each used definition exactly once, as the schema's winning one, and no other.
+-- Assumes nothing.
+use Prim.Native.Nat.{ℕ, _+_}
+use native.Mathlib.Omega.{arith}
+use mathlib.Core.Path.{_≡_, refl, sym, _∙_, ap}
+use mathlib.Core.Bool.{Bool, true, false, cond, _||_}
+use mathlib.Core.List.{List, [], _∷_, _++_, map}
+use mathlib.Core.Option.{Option, none, some}
+use lib.Dec.{eqb}
+use borrow.Author.Tests.{eqb-true, eq-eqb}
+use Rattle.numbers.specs.Result.{isSome}
+use Rattle.schema.specs.Defs.{Lookup, structName, enumName}
+use Rattle.layout.specs.State.{Core, Env, contains, insert, useStructC, useEnumC, file}
+use Rattle.layout.specs.Assemble.{found, consOption, usedOf}
+use Rattle.layout.specs.Demand3.{count, tally, Every, CarriesUsed}
+use Rattle.layout.proofs.Keep.{Prims}
+use Rattle.layout.proofs.CoreOnly.{onCore, core-prims}
+use Rattle.layout.proofs.Reached.{Named}
+
+count-snoc : (x y : ℕ) (l : List ℕ) → count x (l ++ (y ∷ [])) ≡ count x l + tally (eqb y x)
+unfolding count
+count-snoc x y [] = omega arith
+count-snoc x y (z ∷ l) = omega (arith, count-snoc x y l)
+
+contains-snoc : (x y : ℕ) (l : List ℕ) → contains x (l ++ (y ∷ [])) ≡ (contains x l || eqb y x)
+unfolding contains
+contains-snoc x y [] = go (eqb y x)
+  where
+    go : (b : Bool) → cond b true false ≡ b
+    go true = refl
+    go false = refl
+contains-snoc x y (z ∷ l) = go (eqb z x) (contains-snoc x y l)
+  where
+    go : (b : Bool) → contains x (l ++ (y ∷ [])) ≡ (contains x l || eqb y x) → cond b true (contains x (l ++ (y ∷ []))) ≡ (cond b true (contains x l) || eqb y x)
+    go true e = refl
+    go false e = e
+
+count-none : (x : ℕ) (l : List ℕ) → contains x l ≡ false → count x l ≡ 0
+unfolding contains count
+count-none x [] e = refl
+count-none x (y ∷ l) e = go (eqb y x) e (count-none x l)
+  where
+    go : (b : Bool) → cond b true (contains x l) ≡ false → (contains x l ≡ false → count x l ≡ 0) → tally b + count x l ≡ 0
+    go true e′ ih = let z : _≡_ {A = ℕ} 0 1 = cc in omega arith
+    go false e′ ih = omega (arith, ih e′)
+
+or-no : (a : Bool) → (a || false) ≡ a
+or-no true = refl
+or-no false = refl
+
+or-case : {P : Type 0} (a b : Bool) → (a || b) ≡ true → (a ≡ true → P) → (b ≡ true → P) → P
+or-case true b e f g = f refl
+or-case false b e f g = g e
+
+pub contains-insert : (x n : ℕ) (l : List ℕ) → contains x (insert n l) ≡ (contains x l || eqb n x)
+unfolding insert
+contains-insert x n l = go (contains n l) refl (eqb n x) refl
+  where
+    go : (a : Bool) → contains n l ≡ a → (b : Bool) → eqb n x ≡ b → contains x (cond a l (l ++ (n ∷ []))) ≡ (contains x l || b)
+    go true ea true eb = rw (sym (ap (λ k. contains k l) (eqb-true n x eb)) ∙ ea)
+    go true ea false eb = sym (or-no (contains x l))
+    go false ea b eb = contains-snoc x n l ∙ ap (λ k. contains x l || k) eb
+
+-- each name in a list stands there once
+abbrev pub Once : List ℕ → Type 0
+Once l = (x : ℕ) → count x l ≡ tally (contains x l)
+
+once-insert : (n : ℕ) (l : List ℕ) → Once l → Once (insert n l)
+unfolding insert
+once-insert n l h x = go (contains n l) refl
+  where
+    new : contains n l ≡ false → (b : Bool) → eqb n x ≡ b → count x (l ++ (n ∷ [])) ≡ tally (contains x l || b)
+    new ea true eb =
+        let f : contains x l ≡ false = sym (ap (λ k. contains k l) (eqb-true n x eb)) ∙ ea in
+        rw f (omega (arith, count-snoc x n l, ap tally eb, count-none x l f))
+    new ea false eb = rw (or-no (contains x l)) (omega (arith, h x, count-snoc x n l, ap tally eb))
+
+    go : (a : Bool) → contains n l ≡ a → count x (cond a l (l ++ (n ∷ []))) ≡ tally (contains x (cond a l (l ++ (n ∷ []))))
+    go true ea = h x
+    go false ea = rw (contains-snoc x n l) (new ea (eqb n x) refl)
+
+-- each used name stands once, and stands for a definition
+pub record Known (L : Lookup) (c : Core) : Type 0 where
+  pub structsOnce : Once (c .structs)
+  pub enumsOnce : Once (c .enums)
+  pub structsKnown : (x : ℕ) → contains x (c .structs) ≡ true → isSome (L .struct x) ≡ true
+  pub enumsKnown : (x : ℕ) → contains x (c .enums) ≡ true → isSome (L .enum x) ≡ true
+
+known-insert : {A : Type 0} (f : ℕ → Option A) (n : ℕ) (l : List ℕ) → isSome (f n) ≡ true → ((x : ℕ) → contains x l ≡ true → isSome (f x) ≡ true)
+    → (x : ℕ) → contains x (insert n l) ≡ true → isSome (f x) ≡ true
+known-insert f n l k h x u = or-case (contains x l) (eqb n x) (sym (contains-insert x n l) ∙ u) (h x) (λ v. rw (← (eqb-true n x v)) k)
+
+pub known-prims : (E : Env) → Named (E .defs) → Prims E (onCore (Known (E .defs)))
+unfolding useStructC useEnumC file
+known-prims E w =
+    core-prims (Known (E .defs)) E
+    (λ n d c e q.
+    record {
+      structsOnce = once-insert (d .name) (c .structs) (q .structsOnce);
+      enumsOnce = q .enumsOnce;
+      structsKnown = known-insert (E .defs .struct) (d .name) (c .structs) (rw (w .structs n d e, e)) (q .structsKnown);
+      enumsKnown = q .enumsKnown;
+    })
+    (λ n c e q.
+    record {
+      structsOnce = q .structsOnce;
+      enumsOnce = once-insert n (c .enums) (q .enumsOnce);
+      structsKnown = q .structsKnown;
+      enumsKnown = known-insert (E .defs .enum) n (c .enums) e (q .enumsKnown);
+    })
+    (λ n bs c a b q. record { structsOnce = q .structsOnce; enumsOnce = q .enumsOnce; structsKnown = q .structsKnown; enumsKnown = q .enumsKnown })
+
+-- what names stand for
+
+module _ {A : Type 0} (nameOf : A → ℕ) (f : ℕ → Option A) (named : (n : ℕ) (d : A) → f n ≡ some d → nameOf d ≡ n) where
+  pub names-found : (ns : List ℕ) → ((x : ℕ) → contains x ns ≡ true → isSome (f x) ≡ true) → map nameOf (found f ns) ≡ ns
+  unfolding found contains
+  names-found [] h = refl
+  names-found (n ∷ ns) h = go (f n) refl (h n (rw (eq-eqb n n refl))) (names-found ns (λ x e. h x (later (eqb n x) (contains x ns) e)))
+    where
+      later : (b c : Bool) → c ≡ true → cond b true c ≡ true
+      later true c e = refl
+      later false c e = e
+
+      go : (o : Option A) → f n ≡ o → isSome o ≡ true → map nameOf (found f ns) ≡ ns → map nameOf (consOption o (found f ns)) ≡ n ∷ ns
+      go none q i e = let z : _≡_ {A = ℕ} 0 1 = cc in absurd (omega arith)
+      go (some d) q i e = rw (named n d q, e)
+
+  pub defs-found : (ns : List ℕ) → Every (λ d. f (nameOf d) ≡ some d) (found f ns)
+  unfolding found
+  defs-found [] = tt
+  defs-found (n ∷ ns) = go (f n) refl (defs-found ns)
+    where
+      go : (o : Option A) → f n ≡ o → Every (λ d. f (nameOf d) ≡ some d) (found f ns) → Every (λ d. f (nameOf d) ≡ some d) (consOption o (found f ns))
+      go none q e = e
+      go (some d) q e = (ap f (named n d q) ∙ q, e)
+
+-- "PSCH has each used definition once, with the members or entries of S's winning one"
+pub carries : (L : Lookup) → Named L → (c : Core) → Known L c → CarriesUsed L c (usedOf L c)
+unfolding usedOf
+carries L w c k =
+    record {
+      structs = λ x. ap (count x) (names-found structName (L .struct) (w .structs) (c .structs) (k .structsKnown)) ∙ k .structsOnce x;
+      enums = λ x. ap (count x) (names-found enumName (L .enum) (w .enums) (c .enums) (k .enumsKnown)) ∙ k .enumsOnce x;
+      structDefs = defs-found structName (L .struct) (w .structs) (c .structs);
+      enumDefs = defs-found enumName (L .enum) (w .enums) (c .enums);
+    }

@@ -1,0 +1,1 @@
+// The definitions of this crate stand in specs/, their laws in proofs/.
