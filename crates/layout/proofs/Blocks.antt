@@ -13,12 +13,12 @@ use Rattle.numbers.specs.Words.{Bytes}
 use Rattle.schema.specs.Defs.{StructDef, Lookup}
 use Rattle.schema.proofs.Bounds.{All, Fits, winning-fits}
 use Rattle.layout.specs.State
-use Rattle.layout.specs.State.{Block, Core, Env, spot, past, file, maxBlock}
-use Rattle.layout.specs.Build.{Laid, emptyState}
+use Rattle.layout.specs.State.{Block, Core, Env, spot, past, file, maxBlock, emptyState}
+use Rattle.layout.specs.Build.{Laid}
 use Rattle.layout.specs.Demand3.{Octets}
 use Rattle.layout.proofs.Keep.{Okay, Keeps}
 use Rattle.layout.proofs.KeepNamed as K
-use Rattle.layout.proofs.CoreOnly.{onCore, c-remark, c-pay, c-core, addItemC-ok}
+use Rattle.layout.proofs.CoreOnly.{onCore, c-remark, c-pay, c-core, c-useStruct, c-useEnum, addItemC-ok}
 use Rattle.layout.proofs.Reached.{Named, named-winning}
 use Rattle.layout.proofs.Ends.{Ran, octets}
 
@@ -64,13 +64,13 @@ names-short L f w n d e =
     (subst Short (w .structs n d e) s, s)
 
 numbered-prims : (E : Env) → Fits (E .defs) → Named (E .defs) → K.Prims E Short (onCore Numbered)
-unfolding State.useStruct State.useEnum State.addItem State.useStructC State.useEnumC file
+unfolding State.addItem State.useStructC State.useEnumC file
 numbered-prims E f w =
     record {
       remark-keeps = c-remark Numbered;
       pay-keeps = c-pay Numbered E;
-      struct-keeps = λ n d e. c-core Numbered (State.useStructC (d .name)) 0 (λ c q. record { names = q .names; most = q .most });
-      enum-keeps = λ n e. c-core Numbered (State.useEnumC n) 0 (λ c q. record { names = q .names; most = q .most });
+      struct-keeps = λ n d e. c-useStruct Numbered (d .name) (λ c q. record { names = q .names; most = q .most });
+      enum-keeps = λ n e. c-useEnum Numbered n (λ c q. record { names = q .names; most = q .most });
       add-keeps = λ n bs h. c-core Numbered (State.addItemC n bs) 10 (λ c q. addItemC-ok Numbered n bs c (λ a b.
           record {
             names = spot-names n (length bs) (c .blocks) h (q .names);

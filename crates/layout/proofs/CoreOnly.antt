@@ -11,7 +11,7 @@ use Rattle.numbers.specs.Result.{given, isSome}
 use Rattle.schema.specs.Defs.{StructDef}
 use Rattle.layout.specs.State
 use Rattle.layout.specs.State.{Core, State, Env, Out, done, stop, Remark, spot, file}
-use Rattle.layout.proofs.Keep.{Okay, Keeps, Prims}
+use Rattle.layout.proofs.Keep.{Okay, Keeps, Prims, k-bind}
 
 abbrev pub onCore : (Core → Type 0) → State → Type 0
 onCore Q s = Q (s .core)
@@ -50,6 +50,22 @@ module _ (Q : Core → Type 0) where
   unfolding Keeps State.onCore
   c-core f e h s q = settle-ok s e (f (s .core)) (h (s .core) q)
 
+  pub c-logStart : (n : ℕ) → Keeps (onCore Q) (State.logStart n)
+  unfolding Keeps State.logStart
+  c-logStart n s q = q
+
+  pub c-logEnum : (n : ℕ) → Keeps (onCore Q) (State.logEnum n)
+  unfolding Keeps State.logEnum
+  c-logEnum n s q = q
+
+  pub c-useStruct : (n : ℕ) → ((c : Core) → Q c → OkC Q (State.useStructC n c)) → Keeps (onCore Q) (State.useStruct n)
+  unfolding State.useStruct
+  c-useStruct n h = k-bind (onCore Q) _ _ (c-logStart n) (λ u. c-core (State.useStructC n) 0 h)
+
+  pub c-useEnum : (n : ℕ) → ((c : Core) → Q c → OkC Q (State.useEnumC n c)) → Keeps (onCore Q) (State.useEnum n)
+  unfolding State.useEnum
+  c-useEnum n h = k-bind (onCore Q) _ _ (c-logEnum n) (λ u. c-core (State.useEnumC n) 0 h)
+
   -- the item goes to a block that has a number, at a start that has a place in a pointer
   pub addItemC-ok : (n : ℕ) (bs : Bytes) (c : Core)
       → (leb (suc (spot n (length bs) (c .blocks) .before)) 4095 ≡ true → leb (spot n (length bs) (c .blocks) .start) 0xFFFFF ≡ true
@@ -68,11 +84,11 @@ module _ (Q : Core → Type 0) where
       → leb (suc (spot n (length bs) (c .blocks) .before)) 4095 ≡ true → leb (spot n (length bs) (c .blocks) .start) 0xFFFFF ≡ true
       → Q c → Q (file bs c (spot n (length bs) (c .blocks))))
       → Prims E (onCore Q)
-  unfolding State.useStruct State.useEnum State.addItem
+  unfolding State.addItem
   core-prims E hs hu ha = record {
     remark-keeps = c-remark;
     pay-keeps = c-pay E;
-    struct-keeps = λ n d e. c-core (State.useStructC (d .name)) 0 (λ c q. hs n d c e q);
-    enum-keeps = λ n e. c-core (State.useEnumC n) 0 (λ c q. hu n c e q);
+    struct-keeps = λ n d e. c-useStruct (d .name) (λ c q. hs n d c e q);
+    enum-keeps = λ n e. c-useEnum n (λ c q. hu n c e q);
     add-keeps = λ n bs. c-core (State.addItemC n bs) 10 (λ c q. addItemC-ok n bs c (λ a b. ha n bs c a b q));
   }

@@ -16,10 +16,10 @@ use Rattle.value.specs.Rows.{row, fieldsOf}
 use Rattle.schema.specs.Defs.{Schema, Lookup, StructDef, winning, indexEntries}
 use Rattle.schema.specs.Psch.{schemaOf}
 use Rattle.schema.proofs.Bounds.{Fits, winning-fits}
-use Rattle.layout.specs.State.{Env, Out, done, stop}
+use Rattle.layout.specs.State.{Env, Out, done, stop, emptyState}
 use Rattle.layout.specs.Assemble.{usedOf, fileOf}
 use Rattle.layout.specs.Write.{root}
-use Rattle.layout.specs.Build.{Laid, Built, sheetOk, workNeed, capOf, emptyState, laidFrom, layoutWith, layoutOf, layout, packed, fitted, build}
+use Rattle.layout.specs.Build.{Laid, Built, sheetOk, workNeed, capOf, laidFrom, layoutWith, layoutOf, layout, packed, fitted, build}
 use Rattle.layout.specs.Demand3.{Octets}
 use Rattle.layout.proofs.Reached.{then-ok, needed-ok, within-ok}
 use Rattle.layout.proofs.ReadSchema.{reads-schema}

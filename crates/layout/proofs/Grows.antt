@@ -38,6 +38,8 @@ use Rattle.layout.specs.State.{
   pay,
   settle,
   onCore,
+  logStart,
+  logEnum,
   useStruct,
   useStructC,
   useEnum,
@@ -170,13 +172,21 @@ pub g-core : {A : Type 0} (f : Core → Option (A × Core)) (e : ℕ) → Grows 
 unfolding Grows onCore
 g-core f e s = g-settle s e (f (s .core))
 
+g-logStart : (n : ℕ) → Grows (logStart n)
+unfolding Grows logStart
+g-logStart n s = extends-same (s .events)
+
+g-logEnum : (n : ℕ) → Grows (logEnum n)
+unfolding Grows logEnum
+g-logEnum n s = extends-same (s .events)
+
 pub g-useStruct : (n : ℕ) → Grows (useStruct n)
 unfolding useStruct
-g-useStruct n = g-core (useStructC n) 0
+g-useStruct n = search (steps, g-logStart, g-core)
 
 pub g-useEnum : (n : ℕ) → Grows (useEnum n)
 unfolding useEnum
-g-useEnum n = g-core (useEnumC n) 0
+g-useEnum n = search (steps, g-logEnum, g-core)
 
 pub g-addItem : (n : ℕ) (bs : Bytes) → Grows (addItem n bs)
 unfolding addItem

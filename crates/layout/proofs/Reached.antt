@@ -14,9 +14,9 @@ use Rattle.numbers.specs.Result.{Result, ok, refused, andThen, needed, given, o
 use Rattle.value.specs.Rows.{row, fieldsOf}
 use Rattle.schema.specs.Defs.{Schema, Lookup, StructDef, EnumDef, structName, enumName, lastNamed, winning, indexEntries}
 use Rattle.schema.specs.Psch.{schemaOf}
-use Rattle.layout.specs.State.{State, Env, Out, done, stop, Remark, thin}
+use Rattle.layout.specs.State.{State, Env, Out, done, stop, Remark, thin, emptyState}
 use Rattle.layout.specs.Assemble.{itemsIn}
-use Rattle.layout.specs.Build.{Laid, sheetOk, workNeed, capOf, emptyState, within, laidFrom, layoutWith, layoutOf, layout}
+use Rattle.layout.specs.Build.{Laid, sheetOk, workNeed, capOf, within, laidFrom, layoutWith, layoutOf, layout}
 use Rattle.layout.proofs.Keep.{Okay, Keeps, Prims, k-root}
 use Rattle.layout.proofs.CoreOnly.{onCore}
 use Rattle.layout.proofs.Tiling.{Tiled, tiled-prims, lenAt}

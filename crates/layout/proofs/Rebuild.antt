@@ -16,10 +16,10 @@ use Rattle.numbers.specs.Result.{Result, ok, refused, andThen, needed, given, o
 use Rattle.value.specs.Rows.{Fields, row, fieldsOf}
 use Rattle.schema.specs.Defs.{Schema, Lookup, StructDef, structName, enumName, lastNamed, winning, indexEntries}
 use Rattle.schema.specs.Psch.{schemaOf}
-use Rattle.layout.specs.State.{Core, State, Env, Out, done, stop, thin, contains}
+use Rattle.layout.specs.State.{Core, State, Env, Out, done, stop, thin, contains, emptyState}
 use Rattle.layout.specs.Write.{root}
 use Rattle.layout.specs.Assemble.{consOption, found, usedOf, fileOf}
-use Rattle.layout.specs.Build.{Laid, Built, sheetOk, workNeed, capOf, emptyState, within, laidFrom, layoutWith, layoutOf, layout, packed, fitted, build}
+use Rattle.layout.specs.Build.{Laid, Built, sheetOk, workNeed, capOf, within, laidFrom, layoutWith, layoutOf, layout, packed, fitted, build}
 use Rattle.layout.specs.Demand3.{count, tally, Octets, Rebuilds}
 use Rattle.layout.proofs.Keep.{Okay}
 use Rattle.layout.proofs.Reached.{Named, then-ok, needed-ok, within-ok, named-winning}

@@ -18,7 +18,7 @@ use Rattle.coerce.specs.Numbers.{Fit, fits, unfit, floatText}
 use Rattle.coerce.specs.Names.{Entries}
 use Rattle.coerce.proofs.Mono.{Below, enum-below, flags-below}
 use Rattle.schema.specs.Defs.{StructDef, EnumDef, Member, Lookup}
-use Rattle.layout.specs.State.{Core, State, Env, Out, done, stop, M, Remark, after, bind, ret, ifM, optM, fitM, remark, pay, withCharge, contains, insert, useStruct, useStructC, useEnum, useEnumC, addItem, addItemC, file, settle, onCore}
+use Rattle.layout.specs.State.{Core, State, Env, Out, done, stop, M, Remark, after, bind, ret, ifM, optM, fitM, remark, pay, withCharge, contains, insert, logStart, logEnum, useStruct, useStructC, useEnum, useEnumC, addItem, addItemC, file, settle, onCore}
 use Rattle.layout.specs.Kinds
 use Rattle.layout.specs.Members.{says, leaves, need, wrong, scalarMember, addString, textSlot, fixedMember, pointerMember, hashMember, textMember, enumSize, useEnumOf, namedMember, enumMember, flagsMember, rowOf}
 use Rattle.layout.specs.Runs.{
@@ -62,7 +62,7 @@ use Rattle.layout.specs.Write.{
   root,
 }
 use Rattle.layout.proofs.Keep.{Keeps, Prims, steps, k-need, k-leaves, k-says, k-elements, k-run, k-laidRun, k-structElement, k-pairElement, k-members, k-write}
-use Rattle.layout.proofs.CoreOnly.{c-core, core-prims}
+use Rattle.layout.proofs.CoreOnly.{OkC, c-core, c-logStart, c-logEnum, c-useStruct, c-useEnum, core-prims}
 use Rattle.layout.proofs.Reached.{Named}
 use Rattle.layout.proofs.Uses.{contains-insert}
 use Rattle.layout.proofs.Follow.{Follows, Back, Backs, Sim, Tells, s-ret, s-fail, s-bind, s-if, s-if-left, s-know, s-as, alike, t-left, t-right, t-fail, t-if}
@@ -137,12 +137,20 @@ module _ (E : Env) (named : Named (E .defs)) (L′ : Lookup) (cap′ : ℕ) (lar
       go o p (alike-both (some d)) e e′ = hf d e e′
       go o p (first-only d a) e e′ = ha d e a
 
+  -- uses only grow
+
+  in-struct : (s₀ : State) (n : ℕ) (c : Core) → (In U c → D s₀) → OkC (λ c. In U c → D s₀) (useStructC n c)
+  unfolding useStructC
+  in-struct s₀ n c q u = q (record { structs = λ x h. u .structs x (insert-old n x (c .structs) h); enums = u .enums })
+
+  in-enum : (s₀ : State) (n : ℕ) (c : Core) → (In U c → D s₀) → OkC (λ c. In U c → D s₀) (useEnumC n c)
+  unfolding useEnumC
+  in-enum s₀ n c q u = q (record { structs = u .structs; enums = λ x h. u .enums x (insert-old n x (c .enums) h) })
+
   prims : (s₀ : State) → Prims E (Back D s₀)
-  unfolding file useStructC useEnumC
+  unfolding file
   prims s₀ =
-      core-prims (λ c. In U c → D s₀) E
-      (λ n d c e q u. q (record { structs = λ x h. u .structs x (insert-old (d .name) x (c .structs) h); enums = u .enums }))
-      (λ n c e q u. q (record { structs = u .structs; enums = λ x h. u .enums x (insert-old n x (c .enums) h) }))
+      core-prims (λ c. In U c → D s₀) E (λ n d c e q. in-struct s₀ (d .name) c q) (λ n c e q. in-enum s₀ n c q)
       (λ n bs c a b q u. q (record { structs = u .structs; enums = u .enums }))
 
   -- the primitive actions
@@ -182,23 +190,28 @@ module _ (E : Env) (named : Named (E .defs)) (L′ : Lookup) (cap′ : ℕ) (lar
       go s t h none = tt
       go s t h (some r) = λ u. (refl, record { same = refl; less = h .less })
 
-  -- uses only grow
   b-useStruct : (s₀ : State) (n : ℕ) → Keeps (Back D s₀) (useStruct n)
-  unfolding useStruct useStructC
-  b-useStruct s₀ n =
-      c-core (λ c. In U c → D s₀) (useStructC n) 0 (λ c q u. q (record { structs = λ x h. u .structs x (insert-old n x (c .structs) h); enums = u .enums }))
+  b-useStruct s₀ n = c-useStruct (λ c. In U c → D s₀) n (in-struct s₀ n)
 
   b-useEnum : (s₀ : State) (n : ℕ) → Keeps (Back D s₀) (useEnum n)
-  unfolding useEnum useEnumC
-  b-useEnum s₀ n = c-core (λ c. In U c → D s₀) (useEnumC n) 0 (λ c q u. q (record { structs = u .structs; enums = λ x h. u .enums x (insert-old n x (c .enums) h) }))
+  b-useEnum s₀ n = c-useEnum (λ c. In U c → D s₀) n (in-enum s₀ n)
+
+  -- the log of uses is not related
+  s-logStart : (n : ℕ) → Sim Rel D (logStart n) (logStart n)
+  unfolding logStart
+  s-logStart n = record { backs = λ s₀. c-logStart (λ c. In U c → D s₀) n; follows = λ s t h u. (refl, record { same = h .same; less = h .less }) }
+
+  s-logEnum : (n : ℕ) → Sim Rel D (logEnum n) (logEnum n)
+  unfolding logEnum
+  s-logEnum n = record { backs = λ s₀. c-logEnum (λ c. In U c → D s₀) n; follows = λ s t h u. (refl, record { same = h .same; less = h .less }) }
 
   s-useStruct : (n : ℕ) → Sim Rel D (useStruct n) (useStruct n)
   unfolding useStruct
-  s-useStruct n = s-core (useStructC n) 0 (λ s₀. b-useStruct s₀ n)
+  s-useStruct n = s-bind Rel D _ _ _ _ (s-logStart n) (λ u. s-core (useStructC n) 0 (λ s₀. c-core (λ c. In U c → D s₀) (useStructC n) 0 (in-struct s₀ n)))
 
   s-useEnum : (n : ℕ) → Sim Rel D (useEnum n) (useEnum n)
   unfolding useEnum
-  s-useEnum n = s-core (useEnumC n) 0 (λ s₀. b-useEnum s₀ n)
+  s-useEnum n = s-bind Rel D _ _ _ _ (s-logEnum n) (λ u. s-core (useEnumC n) 0 (λ s₀. c-core (λ c. In U c → D s₀) (useEnumC n) 0 (in-enum s₀ n)))
 
   s-add : (n : ℕ) (bs : Bytes) → Sim Rel D (addItem n bs) (addItem n bs)
   unfolding addItem
@@ -206,11 +219,11 @@ module _ (E : Env) (named : Named (E .defs)) (L′ : Lookup) (cap′ : ℕ) (lar
 
   -- a name outside U is used: then U is not the end's
   t-useStruct : (n : ℕ) → contains n (U .structs) ≡ false → Tells D ⊥ (useStruct n)
-  unfolding Tells useStruct onCore settle useStructC
+  unfolding Tells useStruct bind after logStart onCore settle useStructC
   t-useStruct n a s = λ u. let e : contains n (U .structs) ≡ true = u .structs n (insert-new n (s .core .structs)) in let z : _≡_ {A = ℕ} 0 1 = cc in omega arith
 
   t-useEnum : (n : ℕ) → contains n (U .enums) ≡ false → Tells D ⊥ (useEnum n)
-  unfolding Tells useEnum onCore settle useEnumC
+  unfolding Tells useEnum bind after logEnum onCore settle useEnumC
   t-useEnum n a s = λ u. let e : contains n (U .enums) ≡ true = u .enums n (insert-new n (s .core .enums)) in let z : _≡_ {A = ℕ} 0 1 = cc in omega arith
 
   -- members that lead to no structure

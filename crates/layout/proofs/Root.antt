@@ -15,10 +15,10 @@ use Rattle.value.specs.Rows.{Fields, row}
 use Rattle.schema.specs.Defs.{StructDef}
 use Rattle.pso.specs.Reader as R
 use Rattle.layout.specs.State
-use Rattle.layout.specs.State.{Item, Block, Core, State, Env, Out, done, stop, M, Spot, spot, past, file, maxBlock, pointerTo, after, bind, addItem}
+use Rattle.layout.specs.State.{Item, Block, Core, State, Env, Out, done, stop, M, Spot, spot, past, file, maxBlock, pointerTo, after, bind, addItem, emptyState}
 use Rattle.layout.specs.Members.{nth}
 use Rattle.layout.specs.Write.{root, write}
-use Rattle.layout.specs.Build.{Laid, emptyState}
+use Rattle.layout.specs.Build.{Laid}
 use Rattle.layout.specs.Demand3.{placesFrom, readBack, pointerOf}
 use Rattle.layout.proofs.Tiling.{says-block}
 use Rattle.layout.proofs.Reached.{Named, named-winning}

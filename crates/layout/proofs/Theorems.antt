@@ -17,7 +17,7 @@ use Rattle.layout.proofs.Keep.{Prims}
 use Rattle.layout.proofs.CoreOnly.{onCore, core-prims}
 use Rattle.layout.proofs.Reached.{Named, reached, tiled}
 use Rattle.layout.proofs.Places.{blocks-tiled, items-tiled, items-stand}
-use Rattle.layout.proofs.Uses.{Known, known-prims, carries}
+use Rattle.layout.proofs.Uses.{Known, known-prims, Logged, logged-prims, carries}
 
 -- what no action can change
 named-prims : (E : Env) → Named (E .defs) → Prims E (onCore (λ c. Named (E .defs)))
@@ -35,6 +35,10 @@ module _ (T F : Bytes) (work records : ℕ) (l : Laid) (e : layout T F work reco
       (λ L w. record { structsOnce = λ x. refl; enumsOnce = λ x. refl; structsKnown = λ x u. absurd (false≢true u); enumsKnown = λ x u. absurd (false≢true u) })
       T F work records l e
 
+  pub logged : Logged (l .state)
+  unfolding contains
+  logged = reached (λ L. Logged) (λ E w. logged-prims E) (λ L w. record { structs = λ x. refl; enums = λ x. refl }) T F work records l e
+
   -- "Block 1 starts at byte 16 of PSIN, each further block where the one before ends, and the last ends with PSIN."
   pub blocksTile : BlocksTile 16 (readBack l .blocks) (length (readBack l .data′))
   unfolding readBack
@@ -51,6 +55,6 @@ module _ (T F : Bytes) (work records : ℕ) (l : Laid) (e : layout T F work reco
   itemsStand = items-stand (l .state .core) (tiled T F work records l e) (readBack l) refl refl
 
   -- "PSCH has each used definition once, with the members or entries of S's winning one"
-  pub carriesUsed : CarriesUsed (l .defs) (l .state .core) (readBack l .schema)
+  pub carriesUsed : CarriesUsed (l .defs) (l .state .uses) (readBack l .schema)
   unfolding readBack
-  carriesUsed = carries (l .defs) named (l .state .core) known
+  carriesUsed = carries (l .defs) named (l .state) known logged

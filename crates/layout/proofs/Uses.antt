@@ -1,19 +1,48 @@
 -- The file carries each used definition exactly once, as the schema's winning one, and no other.
 -- Assumes nothing.
-use Prim.Native.Nat.{ℕ, _+_}
+use Prim.Native.Nat.{ℕ, suc, _+_}
 use native.Mathlib.Omega.{arith}
 use mathlib.Core.Path.{_≡_, refl, sym, _∙_, ap}
-use mathlib.Core.Bool.{Bool, true, false, cond, _||_}
+use mathlib.Core.Bool.{Bool, true, false, cond, _&&_, _||_}
 use mathlib.Core.List.{List, [], _∷_, _++_, map}
 use mathlib.Core.Option.{Option, none, some}
-use lib.Dec.{eqb}
+use lib.Dec.{eqb, leb}
+use lib.ListN.{length}
 use borrow.Author.Tests.{eqb-true, eq-eqb}
-use Rattle.numbers.specs.Result.{isSome}
+use Rattle.numbers.specs.Result.{given, isSome}
+use Rattle.numbers.specs.Words.{Bytes}
 use Rattle.schema.specs.Defs.{Lookup, structName, enumName}
-use Rattle.layout.specs.State.{Core, Env, contains, insert, useStructC, useEnumC, file}
+use Rattle.layout.specs.State.{
+  Core,
+  State,
+  Env,
+  Spot,
+  spot,
+  pointerTo,
+  done,
+  stop,
+  bind,
+  after,
+  remark,
+  pay,
+  withCharge,
+  contains,
+  insert,
+  logStart,
+  logEnum,
+  useStruct,
+  useStructC,
+  useEnum,
+  useEnumC,
+  addItem,
+  addItemC,
+  file,
+  settle,
+}
+use Rattle.layout.specs.State.{onCore as changes}
 use Rattle.layout.specs.Assemble.{found, consOption, usedOf}
 use Rattle.layout.specs.Demand3.{count, tally, Every, CarriesUsed}
-use Rattle.layout.proofs.Keep.{Prims}
+use Rattle.layout.proofs.Keep.{Okay, Keeps, Prims}
 use Rattle.layout.proofs.CoreOnly.{onCore, core-prims}
 use Rattle.layout.proofs.Reached.{Named}
 
@@ -110,6 +139,42 @@ known-prims E w =
     })
     (λ n bs c a b q. record { structsOnce = q .structsOnce; enumsOnce = q .enumsOnce; structsKnown = q .structsKnown; enumsKnown = q .enumsKnown })
 
+-- the names that the file is made from are those that the log has
+
+pub record Logged (s : State) : Type 0 where
+  pub structs : (x : ℕ) → contains x (s .core .structs) ≡ contains x (s .uses .started)
+  pub enums : (x : ℕ) → contains x (s .core .enums) ≡ contains x (s .uses .enums)
+
+-- a name entered in a list once, and logged each time
+entered : (n : ℕ) (l log : List ℕ) → ((x : ℕ) → contains x l ≡ contains x log) → (x : ℕ) → contains x (insert n l) ≡ contains x (log ++ (n ∷ []))
+entered n l log h x = contains-insert x n l ∙ ap (λ b. b || eqb n x) (h x) ∙ sym (contains-snoc x n log)
+
+paid : (s : State) (n : ℕ) (b : Bool) → Logged s → Okay Logged (cond b (done (tt {0}) (withCharge (s .charge + n) s)) (stop 9 (s .events)))
+paid s n true q = record { structs = q .structs; enums = q .enums }
+paid s n false q = tt
+
+filed : (n : ℕ) (bs : Bytes) (s : State) → Logged s → Okay Logged (addItem n bs s)
+unfolding addItem changes addItemC settle file
+filed n bs s q = go (leb (suc (at .before)) 4095 && leb (at .start) 0xFFFFF)
+  where
+    at : Spot
+    at = spot n (length bs) (s .core .blocks)
+
+    go : (b : Bool) → Okay Logged (settle s 10 (given b (pointerTo (suc (at .before)) (at .start), file bs (s .core) at)))
+    go true = record { structs = q .structs; enums = q .enums }
+    go false = tt
+
+pub logged-prims : (E : Env) → Prims E Logged
+unfolding Keeps remark pay useStruct useEnum bind after logStart logEnum changes settle useStructC useEnumC
+logged-prims E =
+    record {
+      remark-keeps = λ r s q. record { structs = q .structs; enums = q .enums };
+      pay-keeps = λ n s q. paid s n (leb (s .charge + n) (E .chargeCap)) q;
+      struct-keeps = λ n d e s q. record { structs = entered (d .name) (s .core .structs) (s .uses .started) (q .structs); enums = q .enums };
+      enum-keeps = λ n e s q. record { structs = q .structs; enums = entered n (s .core .enums) (s .uses .enums) (q .enums) };
+      add-keeps = λ n bs s q. filed n bs s q;
+    }
+
 -- what names stand for
 
 module _ {A : Type 0} (nameOf : A → ℕ) (f : ℕ → Option A) (named : (n : ℕ) (d : A) → f n ≡ some d → nameOf d ≡ n) where
@@ -136,12 +201,13 @@ module _ {A : Type 0} (nameOf : A → ℕ) (f : ℕ → Option A) (named : (n : 
       go (some d) q e = (ap f (named n d q) ∙ q, e)
 
 -- "PSCH has each used definition once, with the members or entries of S's winning one"
-pub carries : (L : Lookup) → Named L → (c : Core) → Known L c → CarriesUsed L c (usedOf L c)
+pub carries : (L : Lookup) → Named L → (s : State) → Known L (s .core) → Logged s → CarriesUsed L (s .uses) (usedOf L (s .core))
 unfolding usedOf
-carries L w c k =
+carries L w s k g =
+    let c = s .core in
     record {
-      structs = λ x. ap (count x) (names-found structName (L .struct) (w .structs) (c .structs) (k .structsKnown)) ∙ k .structsOnce x;
-      enums = λ x. ap (count x) (names-found enumName (L .enum) (w .enums) (c .enums) (k .enumsKnown)) ∙ k .enumsOnce x;
+      structs = λ x. ap (count x) (names-found structName (L .struct) (w .structs) (c .structs) (k .structsKnown)) ∙ k .structsOnce x ∙ ap tally (g .structs x);
+      enums = λ x. ap (count x) (names-found enumName (L .enum) (w .enums) (c .enums) (k .enumsKnown)) ∙ k .enumsOnce x ∙ ap tally (g .enums x);
       structDefs = defs-found structName (L .struct) (w .structs) (c .structs);
       enumDefs = defs-found enumName (L .enum) (w .enums) (c .enums);
     }

@@ -10,7 +10,7 @@ use Rattle.value.specs.Rows.{row, fieldsOf}
 use Rattle.value.specs.Layout.{laidOut, ascii, rooted}
 use Rattle.schema.specs.Defs.{Lookup, StructDef, winning, indexEntries}
 use Rattle.schema.specs.Psch.{schemaOf}
-use Rattle.layout.specs.State.{Remark, State, Env, Out, done, stop, thin}
+use Rattle.layout.specs.State.{Remark, State, emptyState, Env, Out, done, stop, thin}
 use Rattle.layout.specs.Write.{root}
 use Rattle.layout.specs.Assemble.{fileOf}
 
@@ -35,10 +35,6 @@ workNeed i = 65536 + 8 * i
 -- "The cap is the smaller of 4,194,304 and the whole quotient (work − 65,536 − 8 × i) / 4."
 unfoldable pub capOf : ℕ → ℕ → ℕ
 capOf work i = min 4194304 ((work - workNeed i) / 4)
-
--- before the first byte
-abbrev pub emptyState : State
-emptyState = record { core = record { items = []; blocks = []; structs = []; enums = [] }; charge = 0; events = [] }
 
 -- 14: "one more distinct remark than records". It is met before the run's end, so before its answer and before any other refusal
 unfoldable pub within : {A : Type 0} → ℕ → List Remark → Result A → Result A

@@ -10,7 +10,7 @@ use Rattle.numbers.specs.Words.{Bytes}
 use Rattle.numbers.specs.Result.{ok}
 use Rattle.schema.specs.Defs.{Schema, Lookup, structName, enumName}
 use Rattle.pso.specs.Reader as R
-use Rattle.layout.specs.State.{Item, Block, Core, Remark, contains, pointerTo}
+use Rattle.layout.specs.State.{Item, Block, Remark, Uses, contains, pointerTo}
 use Rattle.layout.specs.Members.{nth}
 use Rattle.layout.specs.Assemble.{itemsIn, dataOf, psinOf, usedOf}
 use Rattle.layout.specs.Build.{Laid, Built, layout, build}
@@ -66,10 +66,11 @@ unfoldable pub count : ℕ → List ℕ → ℕ
 count x [] = 0
 count x (y ∷ l) = tally (eqb y x) + count x l
 
--- "PSCH has each used definition once, with the members or entries of S's winning one", and no other
-pub record CarriesUsed (L : Lookup) (c : Core) (K : Schema) : Type 0 where
-  pub structs : (x : ℕ) → count x (map structName (K .structs)) ≡ tally (contains x (c .structs))
-  pub enums : (x : ℕ) → count x (map enumName (K .enums)) ≡ tally (contains x (c .enums))
+-- "PSCH has each used definition once, with the members or entries of S's winning one; a structure and an enum of one name are two", and no other:
+-- of each name as many definitions as the log of uses u demands, each as the look-up L gives it
+pub record CarriesUsed (L : Lookup) (u : Uses) (K : Schema) : Type 0 where
+  pub structs : (x : ℕ) → count x (map structName (K .structs)) ≡ tally (contains x (u .started))
+  pub enums : (x : ℕ) → count x (map enumName (K .enums)) ≡ tally (contains x (u .enums))
   pub structDefs : Every (λ d. L .struct (d .name) ≡ some d) (K .structs)
   pub enumDefs : Every (λ d. L .enum (d .name) ≡ some d) (K .enums)
 
@@ -84,7 +85,7 @@ pub record Holds (T F : Bytes) (work out : ℕ) (l : Laid) : Type 0 where
   pub blocksTile : BlocksTile 16 (readBack l .blocks) (length (readBack l .data′))
   pub itemsTile : (k : ℕ) (b : R.Block) → nth (readBack l .blocks) k ≡ some b → ItemsTile 0 (itemsIn (suc k) (l .state .core .items)) (b .length′)
   pub itemsStand : Every (Stands (readBack l)) (l .state .core .items)
-  pub carriesUsed : CarriesUsed (l .defs) (l .state .core) (readBack l .schema)
+  pub carriesUsed : CarriesUsed (l .defs) (l .state .uses) (readBack l .schema)
   pub rebuilds : Rebuilds T F work out
 
 -- a list of bytes: what a slice of the code holds. Definitions read any list; only of bytes does reading give back what was written
