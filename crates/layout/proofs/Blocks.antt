@@ -2,25 +2,21 @@
 -- Assumes nothing.
 use Prim.Native.Nat.{ℕ, suc, _+_, _-_, _^_, _≤_, _<_}
 use native.Mathlib.Omega.{arith}
-use mathlib.Core.Path.{_≡_, sym, subst}
+use mathlib.Core.Path.{subst}
 use mathlib.Core.Bool.{Bool, true, false, cond, _&&_}
 use mathlib.Core.List.{List, [], _∷_}
-use mathlib.Core.Option.{some}
 use lib.Dec.{eqb, leb}
 use lib.ListN.{length}
 use borrow.Author.Tests.{leb-true}
 use Rattle.numbers.specs.Words.{Bytes}
-use Rattle.schema.specs.Defs.{StructDef, Lookup}
+use Rattle.numbers.proofs.Bytes.{Octets}
 use Rattle.schema.proofs.Bounds.{All, Fits, winning-fits}
-use Rattle.layout.specs.State
-use Rattle.layout.specs.State.{Block, Core, Env, spot, past, file, maxBlock, emptyState}
+use Rattle.layout.specs.State.{Block, Core, Env, spot, past, file, maxBlock, useStructC, useEnumC}
 use Rattle.layout.specs.Build.{Laid}
-use Rattle.layout.specs.Demand3.{Octets}
-use Rattle.layout.proofs.Keep.{Okay, Keeps}
-use Rattle.layout.proofs.KeepNamed as K
-use Rattle.layout.proofs.CoreOnly.{onCore, c-remark, c-pay, c-core, c-useStruct, c-useEnum, addItemC-ok}
-use Rattle.layout.proofs.Reached.{Named, named-winning}
-use Rattle.layout.proofs.Ends.{Ran, octets}
+use Rattle.layout.proofs.Writers.{Prims}
+use Rattle.layout.proofs.CoreOnly.{Allows, onCore, core-prims}
+use Rattle.layout.proofs.Named.{Named, named-winning}
+use Rattle.layout.proofs.Made.{Made, envOf, reached}
 
 -- names of 4 bytes
 abbrev pub Short : ℕ → Type 0
@@ -58,34 +54,18 @@ spot-names n need (b ∷ bs) h f = go (eqb (b .name) n && leb (b .len + need) ma
 
 -- names
 
-names-short : (L : Lookup) → Fits L → Named L → (n : ℕ) (d : StructDef) → L .struct n ≡ some d → Short n × Short (d .name)
-names-short L f w n d e =
-    let s = f .structs n d e .name in
-    (subst Short (w .structs n d e) s, s)
+short : (E : Env) → Fits (E .defs) → Named (E .defs) → Allows E Short
+short E f w = record { found = λ n d e. subst Short (w .structs n d e) (f .structs n d e .name); named = λ d k. f .structs (k .0) d (k .1) .name; small = λ n h. omega (arith, h) }
 
-numbered-prims : (E : Env) → Fits (E .defs) → Named (E .defs) → K.Prims E Short (onCore Numbered)
-unfolding State.addItem State.useStructC State.useEnumC file
+numbered-prims : (E : Env) → Fits (E .defs) → Named (E .defs) → Prims E (onCore Short Numbered)
+unfolding useStructC useEnumC file
 numbered-prims E f w =
-    record {
-      remark-keeps = c-remark Numbered;
-      pay-keeps = c-pay Numbered E;
-      struct-keeps = λ n d e. c-useStruct Numbered (d .name) (λ c q. record { names = q .names; most = q .most });
-      enum-keeps = λ n e. c-useEnum Numbered n (λ c q. record { names = q .names; most = q .most });
-      add-keeps = λ n bs h. c-core Numbered (State.addItemC n bs) 10 (λ c q. addItemC-ok Numbered n bs c (λ a b.
-          record {
-            names = spot-names n (length bs) (c .blocks) h (q .names);
-            most = spot-most n (length bs) (c .blocks) 4095 (q .most) (leb-true _ _ a);
-          }));
-      small = λ n h. omega (arith, h);
-      names = names-short (E .defs) f w;
-    }
+    core-prims Short Numbered E (short E f w) (λ d c k q. record { names = q .names; most = q .most }) (λ n c e q. record { names = q .names; most = q .most })
+    (λ n bs c h a b q.
+    record { names = spot-names n (length bs) (c .blocks) h (q .names); most = spot-most n (length bs) (c .blocks) 4095 (q .most) (leb-true _ _ a) })
 
 -- of every layout
-
-pub numbered : (T S : Bytes) (l : Laid) → Ran T S l → Octets S → Numbered (l .state .core)
-unfolding Keeps
-numbered T S l r o =
-    let f : Fits (r .env .defs) = subst Fits (sym (r .with-them)) (winning-fits S (r .schema) (octets S o) (r .read)) in
-    let w : Named (r .env .defs) = subst Named (sym (r .with-them)) (named-winning (r .schema)) in
-    subst (Okay (onCore Numbered)) (r .end)
-    (K.k-root (r .env) Short (onCore Numbered) (numbered-prims (r .env) f w) _ (r .def) _ (r .known) emptyState (record { names = tt; most = omega arith }))
+pub numbered : (T S : Bytes) (work : ℕ) (l : Laid) → Made T S work l → Octets S → Numbered (l .state .core)
+numbered T S work l m o =
+    reached T S work l m (onCore Short Numbered) (numbered-prims (envOf T (m .schema) work) (winning-fits S (m .schema) o (m .schema-is)) (named-winning (m .schema)))
+    (record { names = tt; most = omega arith })

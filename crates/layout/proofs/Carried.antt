@@ -1,8 +1,9 @@
--- F as a schema file: each look-up in it, and how many index entries it has.
+-- F as a schema file: what a name stands for in it, how many index entries it has, and that its used definitions make the same file again.
 -- Assumes nothing.
 use Prim.Native.Nat.{ℕ, _+_, _≤_}
 use native.Mathlib.Omega.{arith}
 use mathlib.Core.Path.{_≡_, refl, sym, _∙_, ap}
+use mathlib.Core.Logic.{_⊎_, inl, inr}
 use mathlib.Core.Bool.{Bool, true, false, cond}
 use mathlib.Core.List.{List, [], _∷_}
 use mathlib.Core.Option.{Option, none, some}
@@ -12,10 +13,11 @@ use borrow.Author.Tests.{eqb-true, eq-eqb, eqb-false, ne-eqb}
 use Rattle.numbers.specs.Result.{given, orElse}
 use Rattle.schema.specs.Defs.{Schema, Lookup, structName, enumName, lastNamed, winning, indexEntries}
 use Rattle.layout.specs.State.{Core, contains}
-use Rattle.layout.specs.Assemble.{found, consOption, usedOf}
+use Rattle.layout.specs.Assemble.{found, consOption, usedOf, fileOf}
 use Rattle.layout.specs.Demand3.{count, tally}
-use Rattle.layout.proofs.Reached.{Named}
+use Rattle.layout.proofs.Named.{Named}
 use Rattle.layout.proofs.Uses.{Once, Known}
+use Rattle.layout.proofs.Fewer.{Agree}
 
 -- look-ups
 
@@ -48,14 +50,45 @@ module _ {A : Type 0} (nameOf : A → ℕ) (f : ℕ → Option A) (named : (n : 
           let x : eqb (nameOf d) n ≡ false = ap (λ k. eqb k n) (named m d q) ∙ e in
           rw (x, i) (beside _)
 
--- a name stands in F for what it stands for in S if it is used, else for nothing
-pub carried-struct : (L : Lookup) (c : Core) → Named L → (n : ℕ) → winning (usedOf L c) .struct n ≡ cond (contains n (c .structs)) (L .struct n) none
-unfolding winning usedOf
-carried-struct L c w n = last-found structName (L .struct) (w .structs) n (c .structs)
+  -- a name stands in F for what it stands for in S, or for nothing and is not used
+  agrees : (ns : List ℕ) → Agree f (λ n. lastNamed nameOf n (found f ns)) ns
+  agrees ns n = go (contains n ns) refl
+    where
+      go : (b : Bool) → contains n ns ≡ b → (lastNamed nameOf n (found f ns) ≡ f n) ⊎ ((lastNamed nameOf n (found f ns) ≡ none) × (contains n ns ≡ false))
+      go true e = inl (last-found n ns ∙ (rw e refl))
+      go false e = inr (last-found n ns ∙ (rw e refl), e)
 
-pub carried-enum : (L : Lookup) (c : Core) → Named L → (n : ℕ) → winning (usedOf L c) .enum n ≡ cond (contains n (c .enums)) (L .enum n) none
-unfolding winning usedOf
-carried-enum L c w n = last-found enumName (L .enum) (w .enums) n (c .enums)
+  found-same : (g : ℕ → Option A) (ns : List ℕ) → ((n : ℕ) → contains n ns ≡ true → g n ≡ f n) → found g ns ≡ found f ns
+  unfolding found contains
+  found-same g [] h = refl
+  found-same g (m ∷ ns) h =
+      let e : g m ≡ f m = h m (rw (eq-eqb m m refl) refl) in
+      rw (e, found-same g ns (λ n i. h n (later (eqb m n) (contains n ns) i)))
+    where
+      later : (b c : Bool) → c ≡ true → cond b true c ≡ true
+      later true c e = refl
+      later false c e = e
+
+  -- what is found among the definitions found is found again
+  found-again : (ns : List ℕ) → found (λ n. lastNamed nameOf n (found f ns)) ns ≡ found f ns
+  found-again ns = found-same (λ n. lastNamed nameOf n (found f ns)) ns (λ n i. last-found n ns ∙ (rw i refl))
+
+module _ (L : Lookup) (w : Named L) (c : Core) where
+  pub carried-structs : Agree (L .struct) (winning (usedOf L c) .struct) (c .structs)
+  unfolding winning usedOf
+  carried-structs = agrees structName (L .struct) (w .structs) (c .structs)
+
+  pub carried-enums : Agree (L .enum) (winning (usedOf L c) .enum) (c .enums)
+  unfolding winning usedOf
+  carried-enums = agrees enumName (L .enum) (w .enums) (c .enums)
+
+  -- the same names, looked up in F, make the same file
+  pub carried-file : (p : ℕ) → fileOf (winning (usedOf L c)) p c ≡ fileOf L p c
+  unfolding fileOf
+  carried-file p = rw again
+    where
+      again : usedOf (winning (usedOf L c)) c ≡ usedOf L c
+      again = unfold winning usedOf in (rw (found-again structName (L .struct) (w .structs) (c .structs), found-again enumName (L .enum) (w .enums) (c .enums)))
 
 -- index entries
 

@@ -6,7 +6,7 @@ use mathlib.Core.Bool.{Bool, true, false}
 use mathlib.Core.Option.{Option, none, some}
 use Rattle.coerce.specs.Numbers.{Fit, fits, unfit, floatText}
 use Rattle.layout.specs.State.{State, Out, done, stop, M, after, bind, ret, fail, ifM, optM, fitM}
-use Rattle.layout.proofs.Keep.{Okay, Keeps, k-ret, k-fail, k-bind}
+use Rattle.layout.proofs.Keep.{Claim, always, Okay, Keeps, k-ret, k-fail, k-bind}
 
 abbrev pub Ends : {A : Type 0} → (State → State → Type 0) → A → State → Out A → Type 0
 Ends R a s (done b t) = (a ≡ b) × R s t
@@ -18,11 +18,11 @@ Follows R D (stop n es) p = Unit {0}
 Follows R D (done a s) p = D s → Ends R a s p
 
 -- what held at the end held before
-abbrev pub Back : (State → Type 0) → State → State → Type 0
-Back D s₀ s = D s → D s₀
+abbrev pub back : (State → Type 0) → State → Claim
+back D s₀ = always (λ s. D s → D s₀)
 
 abbrev pub Backs : {A : Type 0} → (State → Type 0) → M A → Type 0
-Backs D m = (s₀ : State) → Keeps (Back D s₀) m
+Backs D m = (s₀ : State) → Keeps (back D s₀) m
 
 pub record Sim {A : Type 0} (R : State → State → Type 0) (D : State → Type 0) (m n : M A) : Type 0 where
   pub backs : Backs D m
@@ -30,7 +30,7 @@ pub record Sim {A : Type 0} (R : State → State → Type 0) (D : State → Type
 
 -- an action whose end in D tells K
 unfoldable pub Tells : {A : Type 0} → (State → Type 0) → Type 0 → M A → Type 0
-Tells D K m = (s : State) → Okay (λ t. D t → K) (m s)
+Tells D K m = (s : State) → Okay (always (λ t. D t → K)) (m s)
 
 module _ (R : State → State → Type 0) (D : State → Type 0) where
   pub s-ret : {A : Type 0} (a : A) → Sim R D (ret a) (ret a)
@@ -39,7 +39,7 @@ module _ (R : State → State → Type 0) (D : State → Type 0) where
 
   pub s-fail : (A : Type 0) (e : ℕ) (n : M A) → Sim R D (fail e) n
   unfolding fail
-  s-fail A e n = record { backs = λ s₀. k-fail _ A e; follows = λ s t h. tt }
+  s-fail A e n = record { backs = λ s₀. k-fail _ A e (λ s p. tt); follows = λ s t h. tt }
 
   s-after : {A B : Type 0} (k k′ : A → M B) → ((a : A) → Sim R D (k a) (k′ a)) → (o p : Out A) → Follows R D o p → Follows R D (after o k) (after p k′)
   unfolding after Keeps
@@ -52,7 +52,7 @@ module _ (R : State → State → Type 0) (D : State → Type 0) where
 
       go : (o : Out B) → k a s ≡ o → Follows R D o (after p k′)
       go (stop x es) e = tt
-      go (done b r) e = λ u. last b r e u p (f (subst (Okay (Back D s)) e (h a .backs s s (λ i. i)) u))
+      go (done b r) e = λ u. last b r e u p (f (subst (Okay (back D s)) e (h a .backs s s (λ i. i)) u))
 
   pub s-bind : {A B : Type 0} (m m′ : M A) (k k′ : A → M B) → Sim R D m m′ → ((a : A) → Sim R D (k a) (k′ a)) → Sim R D (bind m k) (bind m′ k′)
   unfolding bind
@@ -86,7 +86,7 @@ module _ (R : State → State → Type 0) (D : State → Type 0) where
   unfolding Tells
   s-know {A = A} K m n b h f = record { backs = b; follows = λ s t r. go (m s) (n t) (h s) (λ k. f k .follows s t r) }
     where
-      go : (o p : Out A) → Okay (λ t. D t → K) o → (K → Follows R D o p) → Follows R D o p
+      go : (o p : Out A) → Okay (always (λ t. D t → K)) o → (K → Follows R D o p) → Follows R D o p
       go (stop e es) p w g = tt
       go (done a s) p w g = λ u. g (w u) u
 
@@ -95,7 +95,7 @@ module _ (R : State → State → Type 0) (D : State → Type 0) where
   unfolding Keeps
   s-as m m′ n n′ e f h =
       record {
-        backs = λ s₀ s p. subst (Okay (Back D s₀)) (e s) (h .backs s₀ s p);
+        backs = λ s₀ s p. subst (Okay (back D s₀)) (e s) (h .backs s₀ s p);
         follows = λ s t r. subst (λ o. Follows R D o (n′ t)) (e s) (subst (λ o. Follows R D (m s) o) (f t) (h .follows s t r));
       }
 
@@ -106,11 +106,11 @@ module _ (D : State → Type 0) where
   unfolding Tells bind after Keeps
   t-left {A = A} {B = B} K m k hm hk s = go (m s) (hm s)
     where
-      end : (o : Out B) (t : State) → Okay (Back D t) o → (D t → K) → Okay (λ t. D t → K) o
+      end : (o : Out B) (t : State) → Okay (back D t) o → (D t → K) → Okay (always (λ t. D t → K)) o
       end (stop e es) t w f = tt
       end (done b r) t w f = λ u. f (w u)
 
-      go : (o : Out A) → Okay (λ t. D t → K) o → Okay (λ t. D t → K) (after o k)
+      go : (o : Out A) → Okay (always (λ t. D t → K)) o → Okay (always (λ t. D t → K)) (after o k)
       go (stop e es) w = tt
       go (done a t) w = end (k a t) t (hk a t t (λ i. i)) w
 
@@ -118,7 +118,7 @@ module _ (D : State → Type 0) where
   unfolding Tells bind after
   t-right {A = A} K m k hk s = go (m s)
     where
-      go : (o : Out A) → Okay (λ t. D t → K) (after o k)
+      go : (o : Out A) → Okay (always (λ t. D t → K)) (after o k)
       go (stop e es) = tt
       go (done a t) = hk a t
 

@@ -1,32 +1,32 @@
 -- The reader accepts a built file and finds in it what was laid.
 -- Assumes nothing.
-use Prim.Native.Nat.{ℕ, _+_, _%_, _^_, _≤_, _<_}
+use Prim.Native.Nat.{ℕ, _%_, _^_, _≤_, _<_}
 use native.Mathlib.Omega.{arith}
-use mathlib.Core.Path.{_≡_, _∙_, ap}
+use mathlib.Core.Path.{_≡_, sym, _∙_, ap, subst}
 use mathlib.Core.List.{List, _++_}
-use lib.ListN.{length}
+use lib.ListN.{length, take}
+use lib.Seq.{take-append-seam}
 use borrow.Author.Tests.{le-ltb}
 use Rattle.numbers.specs.Words.{Bytes, readAt}
 use Rattle.numbers.specs.Result.{Result, ok, andThen, mapResult, needed}
-use Rattle.numbers.proofs.Bytes.{all-of, left, read-in}
+use Rattle.numbers.proofs.Bytes.{Octets, all-of, left, read-in}
 use Rattle.schema.specs.Sections.{section, end, PSIN, PMAP, PSCH, sections}
 use Rattle.schema.specs.Defs.{Lookup}
-use Rattle.schema.specs.Psch.{Def, pschOf, schemaFrom}
-use Rattle.schema.proofs.Bounds.{Fits}
+use Rattle.schema.specs.Psch.{Def, pschOf, schemaFrom, schemaOf}
+use Rattle.schema.proofs.Bounds.{Fits, winning-fits}
 use Rattle.pso.specs.Reader as R
 use Rattle.layout.specs.State.{Block, Core}
 use Rattle.layout.specs.Assemble.{dataOf, psinOf, pmapOf, usedOf, fileOf}
-use Rattle.layout.specs.Build.{Laid, Built, layout, build}
-use Rattle.layout.specs.Demand3.{Octets, placesFrom, readBack}
-use Rattle.layout.proofs.Tiling.{Tiled}
-use Rattle.layout.proofs.Places.{blocks-tiled}
-use Rattle.layout.proofs.Reached.{tiled}
+use Rattle.layout.specs.Build.{Laid, packed}
+use Rattle.layout.specs.Demand3.{placesFrom, readBack}
+use Rattle.layout.proofs.Tiling.{Tiled, tiled}
+use Rattle.layout.proofs.Places.{psin-length, blocks-tiled}
 use Rattle.layout.proofs.ReadDefs.{listed, apart}
-use Rattle.layout.proofs.ReadSchema.{psin, pmap, psch, psin-length, psin-headed, file-length, file-sections, reads-defs}
+use Rattle.layout.proofs.ReadSchema.{psin, pmap, psch, psin-headed, file-length, file-sections, reads-defs, reads-schema}
 use Rattle.layout.proofs.ReadMap.{pmap-back, root-back}
 use Rattle.layout.proofs.Blocks.{Numbered, numbered}
 use Rattle.layout.proofs.Root.{some-block}
-use Rattle.layout.proofs.Ends.{Ran, ran, ran-fits, fileIn, built}
+use Rattle.layout.proofs.Made.{Made}
 
 -- PSIN, PMAP and PSCH, each once
 seen : (A B C : Bytes) (n : ℕ) (bs : List R.Block) (ds : List Def) → readAt 4 B 8 ≡ n → R.pmapOf B ≡ ok bs → pschOf C ≡ ok ds
@@ -60,15 +60,24 @@ module _ (L : Lookup) (p : ℕ) (c : Core) where
       (reads-defs L p c f h)
       ∙ ap (λ K. ok (record { root = p % 4096; data′ = psinOf (dataOf c); blocks = placesFrom 16 (c .blocks); schema = K })) (apart (usedOf L c)))
 
--- the file of a layout
-pub reads-laid : (T S : Bytes) (l : Laid) → Octets S → Ran T S l → Tiled (l .state .core) → length (fileIn l) ≤ 16777216 → R.parsePso (fileIn l) ≡ ok (readBack l)
-unfolding readBack
-reads-laid T S l o r t h =
-    parses (l .defs) (l .pointer) (l .state .core) (ran-fits T S l o r) t (numbered T S l r o) (some-block T S l r) (omega (arith, h))
+-- of every layout whose file is not too long
 
--- demand 3's field `reads`
-pub reads : (T S : Bytes) (work out records : ℕ) (l : Laid) (b : Built) → Octets S → layout T S work records ≡ ok l → build T S work out records ≡ ok b
-    → R.parsePso (b .file) ≡ ok (readBack l)
-reads T S work out records l b o e g =
-    let (q, h) = built T S work out records l b e g in
-    ap R.parsePso q ∙ reads-laid T S l o (ran T S work records l e) (tiled T S work records l e) h
+module _ (T S : Bytes) (work : ℕ) (l : Laid) (m : Made T S work l) (o : Octets S) (h : length (packed l .file) ≤ 16777216) where
+  fits : Fits (l .defs)
+  fits = subst Fits (sym (m .defs-are)) (winning-fits S (m .schema) o (m .schema-is))
+
+  -- the reader finds what was laid
+  pub reads : R.parsePso (packed l .file) ≡ ok (readBack l)
+  unfolding packed readBack
+  reads =
+      parses (l .defs) (l .pointer) (l .state .core) fits (tiled T S work l m) (numbered T S work l m o) (some-block T S work l m) (omega (arith, h))
+
+  -- as a schema file it gives exactly the used definitions
+  pub reads-used : schemaOf (packed l .file) ≡ ok (usedOf (l .defs) (l .state .core))
+  unfolding packed
+  reads-used = reads-schema (l .defs) (l .pointer) (l .state .core) fits (omega (arith, h))
+
+  -- the data is the front of the file
+  pub data-first : take (length (readBack l .data′)) (packed l .file) ≡ readBack l .data′
+  unfolding packed readBack fileOf
+  data-first = take-append-seam (psinOf (dataOf (l .state .core))) _

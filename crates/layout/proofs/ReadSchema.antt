@@ -16,6 +16,7 @@ use Rattle.schema.proofs.Three.{Headed, three}
 use Rattle.schema.proofs.Bounds.{All, Fits, SchemaFits, StructFits, EnumFits}
 use Rattle.layout.specs.State.{Block, Core}
 use Rattle.layout.specs.Assemble.{dataOf, psinOf, blockRows, pmapOf, recordsOf, pschBytes, found, consOption, usedOf, fileOf}
+use Rattle.layout.proofs.Places.{psin-length}
 use Rattle.layout.proofs.ReadDefs.{psch-headed, psch-reads, listed, apart}
 
 -- PSIN
@@ -24,18 +25,14 @@ module _ (b : Bytes) where
   abbrev psin-heads : List ℕ
   psin-heads = PSIN ∷ (16 + length b) ∷ 0 ∷ 0 ∷ []
 
-  pub psin-length : length (psinOf b) ≡ 16 + length b
-  unfolding psinOf
-  psin-length = omega (arith, length-append (words psin-heads) b, length-words psin-heads)
-
   pub psin-headed : length (psinOf b) < 256 ^ 4 → Headed PSIN (psinOf b)
   unfolding psinOf
   psin-headed h =
-      record { named = word 0 0 (omega arith) (omega arith); measured = word 1 4 (omega arith) (omega arith) ∙ sym psin-length; eight = omega (arith, psin-length) }
+      record { named = word 0 0 (omega arith) (omega arith); measured = word 1 4 (omega arith) (omega arith) ∙ sym (psin-length b); eight = omega (arith, psin-length b) }
     where
       word : (k j : ℕ) → k < 4 → 0 + 4 * k ≡ j → readAt 4 (psinOf b) j ≡ getD psin-heads k 0
       word k j g q =
-          word-at (psinOf b) 0 psin-heads (omega arith, (omega (arith, h, psin-length), (omega arith, (omega arith, tt))))
+          word-at (psinOf b) 0 psin-heads (omega arith, (omega (arith, h, psin-length b), (omega arith, (omega arith, tt))))
           (left (psinOf b) (words psin-heads) b 0 (all-of (psinOf b))) k j g q
 
 -- PMAP

@@ -1,6 +1,6 @@
--- The root is laid last; the number that F says is that of its block, which has the name of the root's type.
+-- The root is laid last, in the block whose number F says; so there is a block.
 -- Assumes nothing.
-use Prim.Native.Nat.{ℕ, zero, suc, _+_, _-_, _%_, _≤_}
+use Prim.Native.Nat.{ℕ, zero, suc, _+_, _-_, _≤_}
 use native.Mathlib.Omega.{arith}
 use mathlib.Core.Path.{_≡_, refl, sym, _∙_, ap, subst}
 use mathlib.Core.Bool.{Bool, true, false, cond, _&&_, false≢true}
@@ -19,10 +19,13 @@ use Rattle.layout.specs.State.{Item, Block, Core, State, Env, Out, done,
 use Rattle.layout.specs.Members.{nth}
 use Rattle.layout.specs.Write.{root, write}
 use Rattle.layout.specs.Build.{Laid}
-use Rattle.layout.specs.Demand3.{placesFrom, readBack, pointerOf}
-use Rattle.layout.proofs.Tiling.{says-block}
-use Rattle.layout.proofs.Reached.{Named, named-winning}
-use Rattle.layout.proofs.Ends.{Ran}
+use Rattle.layout.specs.Assemble.{joined, itemsIn}
+use Rattle.layout.specs.Demand3.{placesFrom, readBack, blockNo, pointerOf, pointerBlock, RootLast}
+use Rattle.layout.proofs.Items.{bytesIn, tile-rest}
+use Rattle.layout.proofs.Tiling.{lenAt, Tiled, tiled, says-block, says-start}
+use Rattle.layout.proofs.Places.{place-length, own-tile}
+use Rattle.layout.proofs.Named.{named-winning}
+use Rattle.layout.proofs.Made.{Made, envOf}
 
 -- the last item of a core has the pointer p and stands in a block named n
 pub record Last (n p : ℕ) (c : Core) : Type 0 where
@@ -102,8 +105,8 @@ unfolding root bind
 root-ended E d fs s = last-after (d .name) (λ bs. addItem (d .name) bs) (λ bs t. added (d .name) bs t) (write E 32 32 d fs s)
 
 -- the root is laid last
-pub last-laid : (T S : Bytes) (l : Laid) (r : Ran T S l) → Last (r .def .name) (l .pointer) (l .state .core)
-last-laid T S l r = subst (Ended (r .def .name)) (r .end) (root-ended (r .env) (r .def) _ emptyState)
+pub last-laid : (T S : Bytes) (work : ℕ) (l : Laid) (m : Made T S work l) → Last (m .def .name) (l .pointer) (l .state .core)
+last-laid T S work l m = subst (Ended (m .def .name)) (m .ran) (root-ended (envOf T (m .schema) work) (m .def) _ emptyState)
 
 nth-some : {A : Type 0} (l : List A) (k : ℕ) (a : A) → nth l k ≡ some a → 1 ≤ length l
 unfolding nth
@@ -111,47 +114,48 @@ nth-some [] k a e = let z : _≡_ {A = ℕ} 0 1 = cc in absurd (omega arith)
 nth-some (b ∷ l) k a e = omega arith
 
 -- .. so there is a block
-pub some-block : (T S : Bytes) (l : Laid) → Ran T S l → 1 ≤ length (l .state .core .blocks)
-some-block T S l r =
-    let e = last-laid T S l r in
+pub some-block : (T S : Bytes) (work : ℕ) (l : Laid) → Made T S work l → 1 ≤ length (l .state .core .blocks)
+some-block T S work l m =
+    let e = last-laid T S work l m in
     nth-some (l .state .core .blocks) (e .item .block - 1) (e .block) (e .standing)
 
-place-of : (at k : ℕ) (bs : List Block) (b : Block) → nth bs k ≡ some b → (r : R.Block) × (nth (placesFrom at bs) k ≡ some r) × (r .name ≡ b .name)
+place-named : (at k : ℕ) (bs : List Block) (b : Block) → nth bs k ≡ some b → (r : R.Block) × (nth (placesFrom at bs) k ≡ some r) × (r .name ≡ b .name)
 unfolding placesFrom nth
-place-of at k [] b e = let z : _≡_ {A = ℕ} 0 1 = cc in absurd (omega arith)
-place-of at zero (c ∷ bs) b e = (_, refl, ap nameIn e)
+place-named at k [] b e = let z : _≡_ {A = ℕ} 0 1 = cc in absurd (omega arith)
+place-named at zero (c ∷ bs) b e = (_, refl, ap nameIn e)
   where
     nameIn : Option Block → ℕ
     nameIn none = 0
     nameIn (some x) = x .name
-place-of at (suc k) (c ∷ bs) b e = place-of (at + c .len) k bs b e
+place-named at (suc k) (c ∷ bs) b e = place-named (at + c .len) k bs b e
 
--- "The root is laid last"; the reader's root number is that of its block
-pub record RootLaid (T : Bytes) (l : Laid) : Type 0 where
-  pub before : List Item
-  pub item : Item
-  pub last : l .state .core .items ≡ before ++ (item ∷ [])
-  pub pointer : pointerOf item ≡ l .pointer
-  pub number : readBack l .root ≡ item .block
-  pub from1 : 1 ≤ item .block
-  pub block : R.Block
-  pub numbered : nth (readBack l .blocks) (item .block - 1) ≡ some block
-  pub named : block .name ≡ row T 0 .a
+-- an item that is laid last is the last of its block
+ends-block : (c : Core) → Tiled c → (a : List Item) (i : Item) (k : ℕ) → c .items ≡ a ++ (i ∷ []) → i .block ≡ suc k → i .start + length (i .bytes) ≡ lenAt k (c .blocks)
+ends-block c t a i k e q = omega (arith, tile-rest 0 (lenAt k (c .blocks)) (itemsIn (suc k) a) i (itemsIn (suc k) []) (own-tile c t a i [] k e q), nothing)
+  where
+    nothing : length (bytesIn (itemsIn (suc k) [])) ≡ 0
+    nothing = unfold joined itemsIn in refl
 
-pub root-laid : (T S : Bytes) (l : Laid) → Ran T S l → RootLaid T l
+-- "The root is laid last; it need not start its block."
+pub root-last : (T S : Bytes) (work : ℕ) (l : Laid) → Made T S work l → RootLast T l (readBack l)
 unfolding readBack
-root-laid T S l r =
-    let e = last-laid T S l r in
-    let (b, q, m) = place-of 16 (e .item .block - 1) (l .state .core .blocks) (e .block) (e .standing) in
-    let w : Named (r .env .defs) = subst Named (sym (r .with-them)) (named-winning (r .schema)) in
+root-last T S work l m =
+    let c = l .state .core in
+    let e = last-laid T S work l m in
+    let i = e .item in
+    let k = i .block - 1 in
+    let q : i .block ≡ suc k = omega (arith, e .from1) in
+    let (b, nb, nm) = place-named 16 k (c .blocks) (e .block) (e .standing) in
+    let says : pointerBlock (pointerOf i) ≡ suc k = says-block i (e .most) ∙ q in
+    let root : pointerBlock (l .pointer) ≡ suc k = ap pointerBlock (sym (e .pointer)) ∙ says in
     record {
-      before = e .before;
-      item = e .item;
-      last = e .last;
-      pointer = e .pointer;
-      number = ap (λ k. k % 4096) (sym (e .pointer)) ∙ says-block (e .item) (e .most);
-      from1 = e .from1;
+      earlier = e .before;
+      item = i;
       block = b;
-      numbered = q;
-      named = m ∙ e .named ∙ w .structs (row T 0 .a) (r .def) (r .known);
+      last = e .last;
+      pointer = sym (e .pointer);
+      number = ap pointerBlock (sym (e .pointer));
+      numbered = subst (λ n. blockNo (placesFrom 16 (c .blocks)) n ≡ some b) (sym root) nb;
+      named = nm ∙ e .named ∙ named-winning (m .schema) .structs (row T 0 .a) (m .def) (m .def-is);
+      ends = ap (λ n. n + length (i .bytes)) (says-start i (e .most)) ∙ ends-block c (tiled T S work l m) (e .before) i k (e .last) q ∙ sym (place-length 16 k (c .blocks) b nb);
     }

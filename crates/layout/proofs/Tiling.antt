@@ -1,8 +1,8 @@
 -- The items of each block tile it, in order of laying.
 -- Assumes nothing.
-use Prim.Native.Nat.{ℕ, zero, suc, _+_, _/_, _%_, _≤_, _<_}
+use Prim.Native.Nat.{ℕ, zero, suc, _+_, _≤_, _<_}
 use native.Mathlib.Omega.{arith}
-use mathlib.Core.Path.{_≡_, refl, sym, _∙_, ap}
+use mathlib.Core.Path.{_≡_, refl, ap}
 use mathlib.Core.Bool.{Bool, true, false, cond, _&&_}
 use mathlib.Core.List.{List, [], _∷_, _++_, append-nil}
 use lib.Dec.{eqb, leb}
@@ -11,9 +11,12 @@ use borrow.Author.Tests.{eqb-true, eqb-false, leb-true}
 use Rattle.numbers.specs.Words.{Bytes}
 use Rattle.layout.specs.State.{Item, Block, Core, Env, Spot, spot, past, file, maxBlock, useStructC, useEnumC}
 use Rattle.layout.specs.Assemble.{itemsIn}
-use Rattle.layout.specs.Demand3.{ItemsTile, pointerOf}
-use Rattle.layout.proofs.Keep.{Prims}
-use Rattle.layout.proofs.CoreOnly.{onCore, core-prims}
+use Rattle.layout.specs.Build.{Laid}
+use Rattle.layout.specs.Demand3.{ItemsTile, pointerOf, pointerBlock, pointerStart}
+use Rattle.layout.proofs.Items.{itemsIn-append, tile-snoc}
+use Rattle.layout.proofs.Writers.{Prims}
+use Rattle.layout.proofs.CoreOnly.{Any, allows-any, onCore, core-prims}
+use Rattle.layout.proofs.Made.{Made, envOf, reached}
 
 -- the length of the block that k blocks stand before; 0 where there is none
 unfoldable pub lenAt : ℕ → List Block → ℕ
@@ -69,26 +72,18 @@ spot-good n need (b ∷ bs) = go (eqb (b .name) n && leb (b .len + need) maxBloc
     go true g = here n need b bs
     go false g = beyond need b bs (spot n need bs) g
 
+-- an item among others
+pub all-mid : (n : ℕ) (a : List Item) (i : Item) (b : List Item) → AllIn n (a ++ (i ∷ b))
+    → (1 ≤ i .block) × (i .block ≤ n) × (i .block ≤ 4095) × (i .start ≤ 0xFFFFF)
+all-mid n [] i b h = (h .0, h .1, h .2, h .3)
+all-mid n (j ∷ a) i b h = all-mid n a i b (h .4)
+
 -- one more item
 
 all-snoc : (n m : ℕ) (is : List Item) (i : Item) → n ≤ m → AllIn n is → 1 ≤ i .block → i .block ≤ m → i .block ≤ 4095 → i .start ≤ 0xFFFFF
     → AllIn m (is ++ (i ∷ []))
 all-snoc n m [] i h a o b c d = (o, b, c, d, tt)
 all-snoc n m (j ∷ is) i h a o b c d = (a .0, omega (arith, a .1), a .2, a .3, all-snoc n m is i h (a .4) o b c d)
-
-tile-snoc : (p e : ℕ) (is : List Item) (i : Item) → ItemsTile p is e → i .start ≡ e → ItemsTile p (is ++ (i ∷ [])) (e + length (i .bytes))
-tile-snoc p e [] i t h = (h ∙ sym t, ap (λ k. k + length (i .bytes)) t)
-tile-snoc p e (j ∷ is) i t h = (t .0, tile-snoc _ e is i (t .1) h)
-
-itemsIn-snoc : (k : ℕ) (is : List Item) (i : Item) → itemsIn k (is ++ (i ∷ [])) ≡ itemsIn k is ++ cond (eqb (i .block) k) (i ∷ []) []
-unfolding itemsIn
-itemsIn-snoc k [] i = refl
-itemsIn-snoc k (j ∷ is) i = go (eqb (j .block) k) (itemsIn-snoc k is i)
-  where
-    go : (b : Bool) → itemsIn k (is ++ (i ∷ [])) ≡ itemsIn k is ++ cond (eqb (i .block) k) (i ∷ []) []
-        → cond b (j ∷ itemsIn k (is ++ (i ∷ []))) (itemsIn k (is ++ (i ∷ []))) ≡ cond b (j ∷ itemsIn k is) (itemsIn k is) ++ cond (eqb (i .block) k) (i ∷ []) []
-    go true e = ap (λ l. j ∷ l) e
-    go false e = e
 
 tiled-file : (bs : Bytes) (c : Core) (p : Spot) → Good (length bs) (c .blocks) p → suc (p .before) ≤ 4095 → p .start ≤ 0xFFFFF → Tiled c → Tiled (file bs c p)
 unfolding file
@@ -105,18 +100,23 @@ tiled-file bs c p g hb hs t =
     go k false e = rw (append-nil, g .others k (λ q. eqb-false (suc (p .before)) (suc k) e (ap suc q))) (t .tiles k)
 
     tl : (k : ℕ) → ItemsTile 0 (itemsIn (suc k) (c .items ++ (i ∷ []))) (lenAt k (p .blocks))
-    tl k = rw itemsIn-snoc (go k (eqb (suc (p .before)) (suc k)) refl)
+    tl k = rw itemsIn-append (unfold itemsIn in go k (eqb (suc (p .before)) (suc k)) refl)
 
-pub tiled-prims : (E : Env) → Prims E (onCore Tiled)
+pub tiled-prims : (E : Env) → Prims E (onCore Any Tiled)
 unfolding useStructC useEnumC
 tiled-prims E =
-    core-prims Tiled E (λ n d c e q. record { tiles = q .tiles; within = q .within }) (λ n c e q. record { tiles = q .tiles; within = q .within })
-    (λ n bs c a b q. tiled-file bs c _ (spot-good n (length bs) (c .blocks)) (leb-true _ _ a) (leb-true _ _ b) q)
+    core-prims Any Tiled E (allows-any E) (λ d c k q. record { tiles = q .tiles; within = q .within }) (λ n c e q. record { tiles = q .tiles; within = q .within })
+    (λ n bs c u a b q. tiled-file bs c _ (spot-good n (length bs) (c .blocks)) (leb-true _ _ a) (leb-true _ _ b) q)
+
+-- of every layout
+pub tiled : (T S : Bytes) (work : ℕ) (l : Laid) → Made T S work l → Tiled (l .state .core)
+unfolding itemsIn lenAt
+tiled T S work l m = reached T S work l m (onCore Any Tiled) (tiled-prims (envOf T (m .schema) work)) (record { tiles = λ k. refl; within = tt })
 
 -- the number formed when an item is laid says its block and its start
 
-pub says-block : (i : Item) → i .block ≤ 4095 → pointerOf i % 4096 ≡ i .block
+pub says-block : (i : Item) → i .block ≤ 4095 → pointerBlock (pointerOf i) ≡ i .block
 says-block i h = omega arith
 
-pub says-start : (i : Item) → i .block ≤ 4095 → pointerOf i / 4096 ≡ i .start
+pub says-start : (i : Item) → i .block ≤ 4095 → pointerStart (pointerOf i) ≡ i .start
 says-start i h = omega arith

@@ -3,7 +3,7 @@
 use Prim.Native.Nat.{ℕ, suc, _+_}
 use native.Mathlib.Omega.{arith}
 use mathlib.Core.Path.{_≡_, refl, sym, _∙_, ap}
-use mathlib.Core.Bool.{Bool, true, false, cond, _&&_, _||_}
+use mathlib.Core.Bool.{Bool, true, false, cond, _&&_, _||_, false≢true}
 use mathlib.Core.List.{List, [], _∷_, _++_, map}
 use mathlib.Core.Option.{Option, none, some}
 use lib.Dec.{eqb, leb}
@@ -11,40 +11,17 @@ use lib.ListN.{length}
 use borrow.Author.Tests.{eqb-true, eq-eqb}
 use Rattle.numbers.specs.Result.{given, isSome}
 use Rattle.numbers.specs.Words.{Bytes}
-use Rattle.schema.specs.Defs.{Lookup, structName, enumName}
-use Rattle.layout.specs.State.{
-  Core,
-  State,
-  Env,
-  Spot,
-  spot,
-  pointerTo,
-  done,
-  stop,
-  bind,
-  after,
-  remark,
-  pay,
-  withCharge,
-  contains,
-  insert,
-  logStart,
-  logEnum,
-  useStruct,
-  useStructC,
-  useEnum,
-  useEnumC,
-  addItem,
-  addItemC,
-  file,
-  settle,
-}
+use Rattle.schema.specs.Defs.{Lookup, structName, enumName, winning}
+use Rattle.layout.specs.State.{Core, State, Env, Spot, spot, pointerTo, done, stop, bind, after, remark, pay, withCharge, contains, insert, logStart, logEnum, useStruct, useStructC, useEnum, useEnumC, addItem, addItemC, file, settle}
 use Rattle.layout.specs.State.{onCore as changes}
 use Rattle.layout.specs.Assemble.{found, consOption, usedOf}
+use Rattle.layout.specs.Build.{Laid}
 use Rattle.layout.specs.Demand3.{count, tally, Every, CarriesUsed}
-use Rattle.layout.proofs.Keep.{Okay, Keeps, Prims}
-use Rattle.layout.proofs.CoreOnly.{onCore, core-prims}
-use Rattle.layout.proofs.Reached.{Named}
+use Rattle.layout.proofs.Keep.{always, Okay, Keeps}
+use Rattle.layout.proofs.Writers.{Defined, Prims}
+use Rattle.layout.proofs.CoreOnly.{Any, allows-any, onCore, core-prims}
+use Rattle.layout.proofs.Named.{Named, named-winning}
+use Rattle.layout.proofs.Made.{Made, envOf, reached}
 
 count-snoc : (x y : ℕ) (l : List ℕ) → count x (l ++ (y ∷ [])) ≡ count x l + tally (eqb y x)
 unfolding count
@@ -119,15 +96,15 @@ known-insert : {A : Type 0} (f : ℕ → Option A) (n : ℕ) (l : List ℕ) → 
     → (x : ℕ) → contains x (insert n l) ≡ true → isSome (f x) ≡ true
 known-insert f n l k h x u = or-case (contains x l) (eqb n x) (sym (contains-insert x n l) ∙ u) (h x) (λ v. rw (← (eqb-true n x v)) k)
 
-pub known-prims : (E : Env) → Named (E .defs) → Prims E (onCore (Known (E .defs)))
+pub known-prims : (E : Env) → Named (E .defs) → Prims E (onCore Any (Known (E .defs)))
 unfolding useStructC useEnumC file
 known-prims E w =
-    core-prims (Known (E .defs)) E
-    (λ n d c e q.
+    core-prims Any (Known (E .defs)) E (allows-any E)
+    (λ d c k q.
     record {
       structsOnce = once-insert (d .name) (c .structs) (q .structsOnce);
       enumsOnce = q .enumsOnce;
-      structsKnown = known-insert (E .defs .struct) (d .name) (c .structs) (rw (w .structs n d e, e)) (q .structsKnown);
+      structsKnown = known-insert (E .defs .struct) (d .name) (c .structs) (rw (w .structs (k .0) d (k .1), k .1)) (q .structsKnown);
       enumsKnown = q .enumsKnown;
     })
     (λ n c e q.
@@ -137,7 +114,7 @@ known-prims E w =
       structsKnown = q .structsKnown;
       enumsKnown = known-insert (E .defs .enum) n (c .enums) e (q .enumsKnown);
     })
-    (λ n bs c a b q. record { structsOnce = q .structsOnce; enumsOnce = q .enumsOnce; structsKnown = q .structsKnown; enumsKnown = q .enumsKnown })
+    (λ n bs c u a b q. record { structsOnce = q .structsOnce; enumsOnce = q .enumsOnce; structsKnown = q .structsKnown; enumsKnown = q .enumsKnown })
 
 -- the names that the file is made from are those that the log has
 
@@ -149,30 +126,35 @@ pub record Logged (s : State) : Type 0 where
 entered : (n : ℕ) (l log : List ℕ) → ((x : ℕ) → contains x l ≡ contains x log) → (x : ℕ) → contains x (insert n l) ≡ contains x (log ++ (n ∷ []))
 entered n l log h x = contains-insert x n l ∙ ap (λ b. b || eqb n x) (h x) ∙ sym (contains-snoc x n log)
 
-paid : (s : State) (n : ℕ) (b : Bool) → Logged s → Okay Logged (cond b (done (tt {0}) (withCharge (s .charge + n) s)) (stop 9 (s .events)))
+paid : (s : State) (n : ℕ) (b : Bool) → Logged s → Okay (always Logged) (cond b (done (tt {0}) (withCharge (s .charge + n) s)) (stop 9 (s .events)))
 paid s n true q = record { structs = q .structs; enums = q .enums }
 paid s n false q = tt
 
-filed : (n : ℕ) (bs : Bytes) (s : State) → Logged s → Okay Logged (addItem n bs s)
+filed : (n : ℕ) (bs : Bytes) (s : State) → Logged s → Okay (always Logged) (addItem n bs s)
 unfolding addItem changes addItemC settle file
 filed n bs s q = go (leb (suc (at .before)) 4095 && leb (at .start) 0xFFFFF)
   where
     at : Spot
     at = spot n (length bs) (s .core .blocks)
 
-    go : (b : Bool) → Okay Logged (settle s 10 (given b (pointerTo (suc (at .before)) (at .start), file bs (s .core) at)))
+    go : (b : Bool) → Okay (always Logged) (settle s 10 (given b (pointerTo (suc (at .before)) (at .start), file bs (s .core) at)))
     go true = record { structs = q .structs; enums = q .enums }
     go false = tt
 
-pub logged-prims : (E : Env) → Prims E Logged
+pub logged-prims : (E : Env) → Prims E (always Logged)
 unfolding Keeps remark pay useStruct useEnum bind after logStart logEnum changes settle useStructC useEnumC
 logged-prims E =
     record {
+      starts = Defined E;
+      refusable = λ s q. tt;
       remark-keeps = λ r s q. record { structs = q .structs; enums = q .enums };
       pay-keeps = λ n s q. paid s n (leb (s .charge + n) (E .chargeCap)) q;
-      struct-keeps = λ n d e s q. record { structs = entered (d .name) (s .core .structs) (s .uses .started) (q .structs); enums = q .enums };
+      struct-keeps = λ d k s q. record { structs = entered (d .name) (s .core .structs) (s .uses .started) (q .structs); enums = q .enums };
       enum-keeps = λ n e s q. record { structs = q .structs; enums = entered n (s .core .enums) (s .uses .enums) (q .enums) };
-      add-keeps = λ n bs s q. filed n bs s q;
+      add-keeps = λ n bs u s q. filed n bs s q;
+      found = λ n d e. ((n, e), tt);
+      named = λ d k. tt;
+      small = λ n h. tt;
     }
 
 -- what names stand for
@@ -200,14 +182,29 @@ module _ {A : Type 0} (nameOf : A → ℕ) (f : ℕ → Option A) (named : (n : 
       go none q e = e
       go (some d) q e = (ap f (named n d q) ∙ q, e)
 
--- "PSCH has each used definition once, with the members or entries of S's winning one"
-pub carries : (L : Lookup) → Named L → (s : State) → Known L (s .core) → Logged s → CarriesUsed L (s .uses) (usedOf L (s .core))
-unfolding usedOf
-carries L w s k g =
-    let c = s .core in
-    record {
-      structs = λ x. ap (count x) (names-found structName (L .struct) (w .structs) (c .structs) (k .structsKnown)) ∙ k .structsOnce x ∙ ap tally (g .structs x);
-      enums = λ x. ap (count x) (names-found enumName (L .enum) (w .enums) (c .enums) (k .enumsKnown)) ∙ k .enumsOnce x ∙ ap tally (g .enums x);
-      structDefs = defs-found structName (L .struct) (w .structs) (c .structs);
-      enumDefs = defs-found enumName (L .enum) (w .enums) (c .enums);
-    }
+-- of every layout
+
+module _ (T S : Bytes) (work : ℕ) (l : Laid) (m : Made T S work l) where
+  pub known : Known (winning (m .schema)) (l .state .core)
+  unfolding count contains
+  known =
+      reached T S work l m (onCore Any (Known (winning (m .schema)))) (known-prims (envOf T (m .schema) work) (named-winning (m .schema)))
+      (record { structsOnce = λ x. refl; enumsOnce = λ x. refl; structsKnown = λ x u. absurd (false≢true u); enumsKnown = λ x u. absurd (false≢true u) })
+
+  logged : Logged (l .state)
+  unfolding contains
+  logged = reached T S work l m (always Logged) (logged-prims (envOf T (m .schema) work)) (record { structs = λ x. refl; enums = λ x. refl })
+
+  -- "PSCH has each used definition once, with the members or entries of S's winning one; a structure and an enum of one name are two."
+  pub carries-used : CarriesUsed (winning (m .schema)) (l .state .uses) (usedOf (winning (m .schema)) (l .state .core))
+  unfolding usedOf
+  carries-used =
+      let L = winning (m .schema) in
+      let c = l .state .core in
+      let w = named-winning (m .schema) in
+      record {
+        structs = λ x. ap (count x) (names-found structName (L .struct) (w .structs) (c .structs) (known .structsKnown)) ∙ known .structsOnce x ∙ ap tally (logged .structs x);
+        enums = λ x. ap (count x) (names-found enumName (L .enum) (w .enums) (c .enums) (known .enumsKnown)) ∙ known .enumsOnce x ∙ ap tally (logged .enums x);
+        structDefs = defs-found structName (L .struct) (w .structs) (c .structs);
+        enumDefs = defs-found enumName (L .enum) (w .enums) (c .enums);
+      }

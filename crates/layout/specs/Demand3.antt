@@ -1,26 +1,32 @@
--- Demand 3, as statements: each for all sheets, schema files and buffer lengths, with no premise "plain" and no lost maps (READINGS 38 to 41).
-use Prim.Native.Nat.{ℕ, suc, _+_, _-_, _/_, _%_, _≤_, _<_}
+-- Demand 3, as statements: what holds of every pack that is built, for all sheets, schema files and buffer lengths.
+-- There is no premise "plain" and no map is lost: docs/REBUILD.md says why.
+use Prim.Native.Nat.{ℕ, zero, suc, _+_, _/_, _%_, _≤_, _<_}
 use mathlib.Core.Path.{_≡_}
 use mathlib.Core.Bool.{Bool, true, false}
-use mathlib.Core.List.{List, [], _∷_, map}
-use mathlib.Core.Option.{some}
+use mathlib.Core.List.{List, [], _∷_, _++_, map}
+use mathlib.Core.Option.{Option, none, some}
 use lib.Dec.{eqb}
 use lib.ListN.{length, take, drop}
 use Rattle.numbers.specs.Words.{Bytes}
 use Rattle.numbers.specs.Result.{ok}
-use Rattle.schema.specs.Defs.{Schema, Lookup, structName, enumName}
+use Rattle.numbers.proofs.Bytes.{Octets}
+use Rattle.value.specs.Rows.{row}
+use Rattle.schema.specs.Defs.{Schema, Lookup, structName, enumName, winning}
+use Rattle.schema.specs.Psch.{schemaOf}
 use Rattle.pso.specs.Reader as R
-use Rattle.layout.specs.State.{Item, Block, Remark, Uses, contains, pointerTo}
+use Rattle.layout.specs.State.{Item, Block, Uses, contains, pointerTo}
 use Rattle.layout.specs.Members.{nth}
 use Rattle.layout.specs.Assemble.{itemsIn, dataOf, psinOf, usedOf}
-use Rattle.layout.specs.Build.{Laid, Built, layout, build}
+use Rattle.layout.specs.Build.{Laid, layout, success, refusal, buildPso}
+
+-- what the reader finds
 
 -- the blocks with their places, the first at `at`
 unfoldable pub placesFrom : ℕ → List Block → List R.Block
 placesFrom at [] = []
 placesFrom at (b ∷ bs) = record { name = b .name; place = at; length′ = b .len } ∷ placesFrom (at + b .len) bs
 
--- what the reader finds in the file of a layout: what was laid
+-- what was laid, as the reader gives it: the root's block number, the data, the blocks, the used definitions
 unfoldable pub readBack : Laid → R.Pso
 readBack l =
     record {
@@ -30,31 +36,59 @@ readBack l =
       schema = usedOf (l .defs) (l .state .core);
     }
 
--- "Block 1 starts at byte 16 of PSIN, each further block where the one before ends, and the last ends with PSIN."
+-- "block number (from 1)"
+abbrev pub blockNo : List R.Block → ℕ → Option R.Block
+blockNo bs zero = none
+blockNo bs (suc k) = nth bs k
+
+-- blocks and items
+
+-- blocks that follow each other from `at` to `end`: "each further block where the one before ends"
 abbrev pub BlocksTile : ℕ → List R.Block → ℕ → Type 0
 BlocksTile at [] end = at ≡ end
 BlocksTile at (b ∷ bs) end = (b .place ≡ at) × BlocksTile (at + b .length′) bs end
 
--- "So do a block's items, in order of laying, from its first byte to its last"
+-- items that follow each other from `at` to `end`
 abbrev pub ItemsTile : ℕ → List Item → ℕ → Type 0
 ItemsTile at [] end = at ≡ end
 ItemsTile at (i ∷ is) end = (i .start ≡ at) × ItemsTile (at + length (i .bytes)) is end
 
--- "Its pointer is the number formed when it is laid"
+-- "Its pointer is the number formed when it is laid": "block number (from 1) plus start × 4,096"
 abbrev pub pointerOf : Item → ℕ
 pointerOf i = pointerTo (i .block) (i .start)
+
+-- the block number and the start that a pointer says
+abbrev pub pointerBlock : ℕ → ℕ
+pointerBlock p = p % 4096
+
+abbrev pub pointerStart : ℕ → ℕ
+pointerStart p = p / 4096
 
 -- "an item's bytes stand at its block's place plus its pointer's start"
 pub record Stands (P : R.Pso) (i : Item) : Type 0 where
   pub block : R.Block
-  pub numbered : nth (P .blocks) (pointerOf i % 4096 - 1) ≡ some block
-  pub from1 : 1 ≤ pointerOf i % 4096
-  pub bytes : take (length (i .bytes)) (drop (block .place + pointerOf i / 4096) (P .data′)) ≡ i .bytes
+  pub numbered : blockNo (P .blocks) (pointerBlock (pointerOf i)) ≡ some block
+  pub bytes : take (length (i .bytes)) (drop (block .place + pointerStart (pointerOf i)) (P .data′)) ≡ i .bytes
 
 -- Q holds of every element
 abbrev pub Every : {A : Type 0} → (A → Type 0) → List A → Type 0
 Every Q [] = Unit {0}
 Every Q (a ∷ l) = Q a × Every Q l
+
+-- "The root is laid last; it need not start its block.": it is the last item, it has the pointer that the layout answers, F's root number is the block
+-- number of that pointer, the block has the name of the root's type, and the root's bytes are its last
+pub record RootLast (T : Bytes) (l : Laid) (P : R.Pso) : Type 0 where
+  pub earlier : List Item
+  pub item : Item
+  pub block : R.Block
+  pub last : l .state .core .items ≡ earlier ++ (item ∷ [])
+  pub pointer : l .pointer ≡ pointerOf item
+  pub number : P .root ≡ pointerBlock (pointerOf item)
+  pub numbered : blockNo (P .blocks) (P .root) ≡ some block
+  pub named : block .name ≡ row T 0 .a
+  pub ends : pointerStart (pointerOf item) + length (item .bytes) ≡ block .length′
+
+-- definitions
 
 -- once where it is so, else not at all
 abbrev pub tally : Bool → ℕ
@@ -66,37 +100,59 @@ unfoldable pub count : ℕ → List ℕ → ℕ
 count x [] = 0
 count x (y ∷ l) = tally (eqb y x) + count x l
 
--- "PSCH has each used definition once, with the members or entries of S's winning one; a structure and an enum of one name are two", and no other:
--- of each name as many definitions as the log of uses u demands, each as the look-up L gives it
+-- the definitions K are, of each name, one if the log u has it and else none, structures and enums apart, and each is the one that its name stands for in L
 pub record CarriesUsed (L : Lookup) (u : Uses) (K : Schema) : Type 0 where
   pub structs : (x : ℕ) → count x (map structName (K .structs)) ≡ tally (contains x (u .started))
   pub enums : (x : ℕ) → count x (map enumName (K .enums)) ≡ tally (contains x (u .enums))
   pub structDefs : Every (λ d. L .struct (d .name) ≡ some d) (K .structs)
   pub enumDefs : Every (λ d. L .enum (d .name) ≡ some d) (K .enums)
 
--- "Enough remark records are as many as the rebuild has distinct remarks; these aren't compared."
-pub record Rebuilds (T F : Bytes) (work out : ℕ) : Type 0 where
-  pub remarks : List Remark
-  pub same : (records : ℕ) → length remarks ≤ records → build T F work out records ≡ ok (record { file = F; remarks = remarks })
+-- the rebuild
 
--- what holds of a built file F of the sheet T, whose layout was l
-pub record Holds (T F : Bytes) (work out : ℕ) (l : Laid) : Type 0 where
-  pub reads : R.parsePso F ≡ ok (readBack l)
-  pub blocksTile : BlocksTile 16 (readBack l .blocks) (length (readBack l .data′))
-  pub itemsTile : (k : ℕ) (b : R.Block) → nth (readBack l .blocks) k ≡ some b → ItemsTile 0 (itemsIn (suc k) (l .state .core .items)) (b .length′)
-  pub itemsStand : Every (Stands (readBack l)) (l .state .core .items)
-  pub carriesUsed : CarriesUsed (l .defs) (l .state .uses) (readBack l .schema)
+-- the call with F as schema file, `work` bytes of work area and any output of `out` bytes. "Enough remark records are as many as the rebuild has distinct
+-- remarks": with as many it answers F's length and has F at the front of the output, with fewer it is 14
+pub record Rebuilds (T F : Bytes) (work out : ℕ) : Type 0 where
+  pub distinct : ℕ
+  pub answers : (buffer : Bytes) (records : ℕ) → length buffer ≡ out → distinct ≤ records → buildPso T F work buffer records .answer ≡ success (length F) distinct
+  pub same : (buffer : Bytes) (records : ℕ) → length buffer ≡ out → distinct ≤ records → take (length F) (buildPso T F work buffer records .output) ≡ F
+  pub fewer : (buffer : Bytes) (records : ℕ) → length buffer ≡ out → records < distinct → buildPso T F work buffer records .answer ≡ refusal 14
+
+-- all of it
+
+-- demand 3 of a pack F that was built from the sheet T and the schema file S, with `work` bytes of work area, `out` bytes of output and `records` remark records
+pub record Demand3 (T S : Bytes) (work out records : ℕ) (F : Bytes) : Type 0 where
+  -- "the layout applied to T and S gives items, pointers and uses"
+  pub laid : Laid
+  pub layoutGives : layout T S work records ≡ ok laid
+  -- the definitions of S
+  pub schema : Schema
+  pub schemaGives : schemaOf S ≡ ok schema
+  -- the reader accepts F
+  pub read : R.Pso
+  pub accepts : R.parsePso F ≡ ok read
+  -- and reads exactly the root's block number, the data, the blocks and the definitions that were laid
+  pub readsLaid : read ≡ readBack laid
+  -- "PSIN, PMAP and PSCH, .. in that order": the data that is read is the front of F, so places in it are places in F
+  pub dataFirst : take (length (read .data′)) F ≡ read .data′
+  -- "Block 1 starts at byte 16 of PSIN, each further block where the one before ends, and the last ends with PSIN."
+  pub blocksTile : BlocksTile 16 (read .blocks) (length (read .data′))
+  -- "So do a block's items, in order of laying, from its first byte to its last"
+  pub itemsTile : (k : ℕ) (b : R.Block) → blockNo (read .blocks) k ≡ some b → ItemsTile 0 (itemsIn k (laid .state .core .items)) (b .length′)
+  -- "an item's bytes stand at its block's place plus its pointer's start"
+  pub itemsStand : Every (Stands read) (laid .state .core .items)
+  -- "The root is laid last; it need not start its block."
+  pub rootLast : RootLast T laid read
+  -- "PSCH has each used definition once, with the members or entries of S's winning one; a structure and an enum of one name are two."
+  pub carriesUsed : CarriesUsed (winning schema) (laid .state .uses) (read .schema)
+  -- building T again, with F as schema file, with work and output as long as before and enough remark records, gives F
   pub rebuilds : Rebuilds T F work out
 
--- a list of bytes: what a slice of the code holds. Definitions read any list; only of bytes does reading give back what was written
-abbrev pub Octets : Bytes → Type 0
-Octets = Every (λ b. b < 256)
-
--- demand 3
-abbrev pub Demand3 : Type 0
-Demand3 =
-    (T S : Bytes) (work out records : ℕ) (l : Laid) (b : Built)
-    → Octets T → Octets S → layout T S work records ≡ ok l → build T S work out records ≡ ok b → Holds T (b .file) work out l
+-- every pack: if the call answers success with length n, the first n bytes of the output are a file of which demand 3 holds.
+-- S is a list of bytes, as a slice of the code is
+abbrev pub EveryPack : Type 0
+EveryPack =
+    (T S : Bytes) (work : ℕ) (out : Bytes) (records n m : ℕ) → Octets S → buildPso T S work out records .answer ≡ success n m
+    → (length (take n (buildPso T S work out records .output)) ≡ n) × Demand3 T S work (length out) records (take n (buildPso T S work out records .output))
 
 -- for evaluation
 unfoldable pub evaluated : ℕ → ℕ
