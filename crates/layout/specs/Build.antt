@@ -1,13 +1,14 @@
 -- Building: the order of refusals, and what stands in the lent buffers after the call.
 use Prim.Native.Nat.{ℕ, _+_, _-_, _*_, _/_, min}
 use mathlib.Core.Bool.{cond, _||_}
-use mathlib.Core.List.{List, [], _++_}
+use mathlib.Core.List.{List, _++_}
+use mathlib.Core.Option.{Option, none, some}
 use lib.Dec.{ltb}
 use lib.ListN.{length, drop, replicate}
 use Rattle.numbers.specs.Words.{Bytes, zeros}
 use Rattle.numbers.specs.Result.{Result, ok, refused, andThen, needed}
 use Rattle.value.specs.Rows.{row, fieldsOf}
-use Rattle.value.specs.Layout.{laidOut, ascii, rooted}
+use Rattle.value.specs.Answer.{checked, numberOf}
 use Rattle.schema.specs.Defs.{Lookup, StructDef, winning, indexEntries}
 use Rattle.schema.specs.Psch.{schemaOf}
 use Rattle.layout.specs.State.{Remark, State, emptyState, Env, Out, done, stop, thin}
@@ -20,13 +21,19 @@ pub record Laid : Type 0 where
   pub pointer : ℕ
   pub defs : Lookup
 
+-- what building gives: the file and the distinct remarks
 pub record Built : Type 0 where
   pub file : Bytes
   pub remarks : List Remark
 
--- refusals "1, 2, 3": the whole sheet for each
+-- a refusal where there is a number
+abbrev pub refusedBy : Option ℕ → Result (Unit {0})
+refusedBy none = ok tt
+refusedBy (some n) = refused n
+
+-- refusals "1, 2, 3"
 unfoldable pub sheetOk : Bytes → Result (Unit {0})
-sheetOk T = cond (laidOut T) (cond (ascii T) (cond (rooted T) (ok tt) (refused 3)) (refused 2)) (refused 1)
+sheetOk T = refusedBy (numberOf (checked T))
 
 -- 12: "work is shorter than 65,536 + 8 × i"
 abbrev pub workNeed : ℕ → ℕ
@@ -67,7 +74,7 @@ packed l = record { file = fileOf (l .defs) (l .pointer) (l .state .core); remar
 unfoldable pub fitted : ℕ → Built → Result Built
 fitted out b = cond (ltb out (length (b .file)) || ltb 16777216 (length (b .file))) (refused 13) (ok b)
 
--- "Order of building: 1, 2, 3; sections in file order (4, 5, 6); 7; 12; then 8, 9, 10, 11, 14 as first met in writing order; last 13."
+-- "Order of building: 1, 2, 3; sections in file order (4, 5, 6); 7; 12; then 8, 9, 10, 11, 14 as first met in writing order, 8 before 9; last 13."
 unfoldable pub build : Bytes → Bytes → ℕ → ℕ → ℕ → Result Built
 build T F work out records = andThen (layout T F work records) λ l. fitted out (packed l)
 
@@ -106,5 +113,5 @@ buildPso T F work out records = afterwards work out records (build T F work (len
 
 -- for evaluation
 unfoldable pub evaluated : ℕ → ℕ
-unfolding sheetOk capOf within laidFrom layoutWith layoutOf layout packed fitted build afterwards buildPso
+unfolding checked sheetOk capOf within laidFrom layoutWith layoutOf layout packed fitted build afterwards buildPso
 evaluated n = n

@@ -1,4 +1,5 @@
--- Members that lead to no structure: scalars, texts, enums and flags. buf is the structure's bytes so far, v the member's value.
+-- Members that lead to no structure: scalars, texts, enums and flags.
+-- d is the structure's definition, e the member, v its value, buf the structure's bytes so far, off a place in them.
 use Prim.Native.Nat.{ℕ, zero, suc, _+_, _-_, _/_, _%_}
 use mathlib.Core.Bool.{Bool, cond, _&&_, _||_}
 use mathlib.Core.List.{List, [], _∷_, _++_}
@@ -14,13 +15,13 @@ use Rattle.schema.specs.Defs.{Lookup, StructDef, Member}
 use Rattle.layout.specs.State.{Env, M, bind, ret, ifM, optM, fitM, remark, pay, useEnum, addItem}
 use Rattle.layout.specs.Kinds.{Scalar, sizeOf, scalarBytes, typeNumber}
 
--- the definition's i-th member
+-- the i-th of a list, from 0
 unfoldable pub nth : {A : Type 0} → List A → ℕ → Option A
 nth [] i = none
 nth (a ∷ l) zero = some a
 nth (a ∷ l) (suc i) = nth l i
 
--- the reference of the definition's i-th member; "out of range means name 0"
+-- the reference of the definition's i-th member, whatever its name; 0 where there is none
 unfoldable pub referenceAt : StructDef → ℕ → ℕ
 referenceAt d i = orValue (mapOption (λ m. m .reference) (nth (d .members) i)) 0
 
@@ -40,7 +41,7 @@ high16 x = x / 65536
 unfoldable pub putPointer : Bytes → ℕ → ℕ → Bytes
 putPointer buf off p = over buf off (bytesOf 4 p)
 
--- with a count: twice 2 bytes, 8 bytes after the pointer
+-- a pointer with a count: 8 bytes after the pointer the count's low 2 bytes, twice
 unfoldable pub putCounted : Bytes → ℕ → ℕ → ℕ → Bytes
 putCounted buf off p n = over (putPointer buf off p) (off + 8) (bytesOf 2 n ++ bytesOf 2 n)
 
@@ -48,19 +49,19 @@ putCounted buf off p n = over (putPointer buf off p) (off + 8) (bytesOf 2 n ++ b
 abbrev pub entriesOf : Lookup → ℕ → Entries
 entriesOf L h = orValue (mapOption (λ x. x .entries) (L .enum h)) []
 
--- string subtypes: 1, 2 and 3 by pointer, 3 with its length; 7 and 8 as a hash
+-- a text by pointer: subtypes 1, 2 and 3
 abbrev pub isPointerText : ℕ → Bool
 isPointerText sub = leb 1 sub && leb sub 3
 
--- the bytes of a text slot
+-- how many bytes a text by pointer has in its structure; subtype 3 has its length too
 abbrev pub slotSize : ℕ → ℕ
 slotSize sub = cond (eqb sub 3) 16 8
 
--- a hash
+-- a text as a hash: subtypes 7 and 8
 abbrev pub isHashText : ℕ → Bool
 isHashText sub = eqb sub 7 || eqb sub 8
 
--- "Enum and flag sizes: subtype 0: 4, 1: 2, else 1"
+-- how many bytes an enum or flags member has
 abbrev pub enumSize : ℕ → ℕ
 enumSize sub = cond (eqb sub 0) 4 (cond (eqb sub 1) 2 1)
 
@@ -85,13 +86,13 @@ module _ (E : Env) where
   abbrev pub rowOf : Value → Row
   rowOf v = valueRow (E .sheet) v
 
-  -- "Scalars, vectors ..: fit (1), then coercion (2)"
+  -- a scalar: does it fit (1), then does it coerce (2)
   unfoldable pub scalarMember : Scalar → StructDef → Member → Value → Bytes → M Bytes
   scalarMember s d e v buf =
       need d e (sizeOf s) buf
       (fitM (scalarBytes (E .sheet) s (rowOf v)) (wrong d e v buf) λ bs. ret (over buf (e .offset) bs))
 
-  -- "laid text costs 16 plus its full length (.. with its closing zero byte)"; it goes to block 1
+  -- "laid text costs 16 plus its full length (a text's with its closing zero byte"; it goes to a block named 1
   unfoldable pub addString : Bytes → M ℕ
   addString t = bind (pay E (16 + (length t + 1))) λ _. addItem 1 (t ++ (0 ∷ []))
 
@@ -101,19 +102,19 @@ module _ (E : Env) where
       ifM (isEmpty t) (ret buf)
       (bind (addString t) λ p. ret (cond (eqb sub 3) (putCounted buf off p (length t)) (putPointer buf off p)))
 
-  -- "Fixed strings are cut to length - 1 without remark."
+  -- a text in the structure itself: as many bytes as the reference's high half says, the last of them zero; what is longer is cut, without remark
   unfoldable pub fixedMember : StructDef → Member → Value → Bytes → M Bytes
   fixedMember d e v buf =
       need d e (high16 (e .reference)) buf
       (optM (strOf (E .sheet) (rowOf v)) (wrong d e v buf) λ t. ret (over buf (e .offset) (take (high16 (e .reference) - 1) t)))
 
-  -- subtypes 1, 2 and 3
+  -- a text by pointer
   unfoldable pub pointerMember : StructDef → Member → Value → Bytes → M Bytes
   pointerMember d e v buf =
       need d e (slotSize (e .subtype)) buf
       (optM (strOf (E .sheet) (rowOf v)) (wrong d e v buf) λ t. textSlot (e .subtype) t buf (e .offset))
 
-  -- subtypes 7 and 8
+  -- a hash
   unfoldable pub hashMember : StructDef → Member → Value → Bytes → M Bytes
   hashMember d e v buf =
       need d e 4 buf
@@ -126,7 +127,7 @@ module _ (E : Env) where
       (ifM (isPointerText (e .subtype)) (pointerMember d e v buf)
       (ifM (isHashText (e .subtype)) (hashMember d e v buf) (leaves d e 3 (e .subtype) buf)))
 
-  -- "an enum in the schema"
+  -- "an enum in the schema" is used; any other name is not
   unfoldable pub useEnumOf : ℕ → M (Unit {0})
   useEnumOf h = ifM (isSome (E .defs .enum h)) (useEnum h) (ret tt)
 
@@ -137,11 +138,11 @@ module _ (E : Env) where
       (fitM (f (entriesOf (E .defs) h)) (wrong d e v buf) λ x.
       bind (useEnumOf h) λ _. ret (over buf (e .offset) (bytesOf (enumSize (e .subtype)) x)))
 
-  -- the enum is the member's reference
+  -- the enum's name is the member's reference
   unfoldable pub enumMember : StructDef → Member → Value → Bytes → M Bytes
   enumMember d e v buf = namedMember (λ es. enumValue (E .sheet) es (rowOf v)) (e .reference) d e v buf
 
-  -- the enum is the reference of the member that the low 12 bits number
+  -- the enum's name is the reference of that member of the definition whose number the low 12 bits say
   unfoldable pub flagsMember : StructDef → Member → Value → Bytes → M Bytes
   flagsMember d e v buf =
       namedMember (λ es. flagsBits 64 (E .sheet) es (rowOf v)) (referenceAt d (low12 (e .reference))) d e v buf

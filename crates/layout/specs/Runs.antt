@@ -1,4 +1,5 @@
--- Runs: the elements of an array, and structures reached by pointer. w writes a structure one deeper.
+-- Runs: the elements of an array, and structures reached by pointer.
+-- w writes a structure one deeper; d and e are the structure and its array member, x what ARRAYINFO says of the elements, r a row, rs the elements' rows.
 use Prim.Native.Nat.{ℕ, _+_, _-_, _*_}
 use mathlib.Core.Bool.{cond, _||_}
 use mathlib.Core.List.{List, [], _∷_, _++_}
@@ -32,13 +33,13 @@ elements f (x ∷ xs) =
     optM o (ret none) λ b.
     bind (elements f xs) λ p. optM p (ret none) λ bs. ret (some (b ++ bs))
 
--- blocks of raw storage
+-- the name of the block that a run of scalars goes to
 abbrev pub scalarBlock : Kinds.Scalar → ℕ → ℕ
 scalarBlock (Kinds.integer k) ty = cond (leb k 1) 2 (cond (leb k 2) 4 (cond (eqb ty 0x05) 5 6))
 scalarBlock Kinds.single ty = 7
 scalarBlock (Kinds.vector n) ty = 1
 
--- "vec3 elements 16"
+-- how many bytes a scalar element has; a vector of three has 16
 abbrev pub scalarStride : Kinds.Scalar → ℕ
 scalarStride (Kinds.integer k) = k
 scalarStride Kinds.single = 4
@@ -55,7 +56,7 @@ module _ (E : Env) where
       bind (pay E (16 + stride * length xs)) λ _.
       bind (elements f xs) λ o. ret (mapOption (λ bs. record { bytes = bs; block = block }) o)
 
-  -- "By pointer the row's own type decides if the schema has a structure of that name, else the member's reference."
+  -- by pointer the row's own type counts where the schema has a structure of that name, else the reference
   unfoldable pub ownType : Row → ℕ → ℕ
   ownType v ref = cond (isSome (E .defs .struct (v .a))) (v .a) ref
 
@@ -65,33 +66,33 @@ module _ (E : Env) where
       optM (E .defs .struct (ownType v ref)) (bind (says d e 4 (ownType v ref)) λ _. ret none) λ i.
       bind (w i (fieldsOf (E .sheet) v)) λ bs. bind (addItem (i .name) bs) λ p. ret (some p)
 
-  -- "a non-Struct is a zero slot without remark"
+  -- a pointer in 8 bytes; what is no Struct leaves them zero, without remark
   unfoldable pub pointerElement : Writer → StructDef → Member → ℕ → ℕ → M (Option Bytes)
   pointerElement w d e ref r =
       ifM (eqb (row (E .sheet) r .kind) Struct)
       (bind (pointed w d e ref (row (E .sheet) r)) λ o. ret (some (putPointer (zeros 8) 0 (orValue o 0))))
       (ret (some (zeros 8)))
 
-  -- remark 9: "element no structure"; "an all-default element"
+  -- remark 9: "element no structure", which is then written without values
   unfoldable pub structElement : Writer → StructDef → Member → StructDef → ℕ → M (Option Bytes)
   structElement w d e i r =
       bind (ifM (eqb (row (E .sheet) r .kind) Struct || eqb (row (E .sheet) r .kind) Null) (ret tt) (says d e 9 0)) λ _.
       bind (w i (fieldsOf (E .sheet) (row (E .sheet) r))) λ bs. ret (some bs)
 
-  -- "Strings 1, 2, 3: an unreadable element is an empty slot."
+  -- a text by pointer; what is no text leaves its bytes zero
   unfoldable pub textElement : ℕ → ℕ → M (Option Bytes)
   textElement sub r =
       bind (textSlot E sub (orValue (strOf (E .sheet) (row (E .sheet) r)) []) (zeros (slotSize sub)) 0) λ bs. ret (some bs)
 
-  -- a fixed string of len bytes; anything that is no text drops the run
+  -- a text in len bytes; what is no text drops the run
   unfoldable pub fixedElement : ℕ → ℕ → M (Option Bytes)
   fixedElement len r = ret (mapOption (λ t. padded len (take (len - 1) t)) (strOf (E .sheet) (row (E .sheet) r)))
 
-  -- a hash; anything else drops the run
+  -- a hash; what is none drops the run
   unfoldable pub hashElement : ℕ → M (Option Bytes)
   hashElement r = ret (mapOption (bytesOf 4) (hashOf (E .sheet) (row (E .sheet) r)))
 
-  -- "Enum elements of a run have 4 bytes whatever the subtype"
+  -- an enum value, in 4 bytes whatever the subtype; what is none drops the run
   unfoldable pub enumElement : ℕ → ℕ → M (Option Bytes)
   enumElement h r =
       fitM (enumValue (E .sheet) (entriesOf (E .defs) h) (row (E .sheet) r)) (ret none) λ x. ret (some (bytesOf 4 x))

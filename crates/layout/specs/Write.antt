@@ -1,4 +1,5 @@
 -- "A structure leads to its members and a member to further structures, inline, by pointer, in runs and in map pairs."
+-- w writes a structure one deeper; d is the structure's definition, e the member, v its value, buf the structure's bytes so far.
 use Prim.Native.Nat.{ℕ, zero, suc, _+_, _-_}
 use mathlib.Core.Bool.{Bool, true, false, cond, _&&_, _||_}
 use mathlib.Core.List.{List, [], _∷_}
@@ -18,7 +19,7 @@ use Rattle.layout.specs.Runs.{Writer, Run, run, pointed, elementRun}
 abbrev pub ARRAYINFO : ℕ
 ARRAYINFO = 0x100
 
--- "Array: 16-bit index, else, if out of range, 12-bit"
+-- what an array's elements are: the member of the definition whose number the reference's low 16 bits say, or, where there are too few, its low 12 bits
 unfoldable pub arrayInfo : StructDef → Member → Option Member
 arrayInfo d e = nth (d .members) (cond (ltb (low16 (e .reference)) (length (d .members))) (low16 (e .reference)) (low12 (e .reference)))
 
@@ -28,7 +29,7 @@ pairsOf [] = []
 pairsOf (k ∷ []) = []
 pairsOf (k ∷ (v ∷ rs)) = (k, v) ∷ pairsOf rs
 
--- "the names of the pair definition's first two members other than 0x100 are zipped with key and value"
+-- the rows rs under the names of the first members, name 0x100 skipped
 unfoldable pub named : List Member → List ℕ → Fields
 named [] rs = []
 named (m ∷ ms) [] = []
@@ -44,13 +45,13 @@ laidRun m n off buf =
     bind m λ o. optM o (ret buf) λ r. bind (addItem (r .block) (r .bytes)) λ p. ret (putCounted buf off p n)
 
 module _ (E : Env) where
-  -- remark 4: "no structure definition (hash)"
+  -- a structure inline: remark 4, "no structure definition (hash)", then remark 1
   unfoldable pub inlineMember : Writer → StructDef → Member → Row → Bytes → M Bytes
   inlineMember w d e v buf =
       optM (E .defs .struct (e .reference)) (leaves d e 4 (e .reference) buf) λ i.
       need d e (i .size) buf (bind (w i (fieldsOf (E .sheet) v)) λ bs. ret (over buf (e .offset) bs))
 
-  -- "Null or missing or empty text ends it"
+  -- a structure by pointer; without a Struct the pointer stays zero
   unfoldable pub pointedMember : Writer → StructDef → Member → Row → Bytes → M Bytes
   pointedMember w d e v buf =
       need d e 8 buf
@@ -75,13 +76,13 @@ module _ (E : Env) where
       need d e 16 buf
       (ifM (isEmpty rs) (ret buf) (laidRun (elementRun E w d e x (Kinds.kindOf (x .type)) rs) (length rs) (e .offset) buf))
 
-  -- "Embedded: the run with all its items, remarks and uses first, then fit"
+  -- an array inline: first the run with all that it lays, remarks and uses, then does it fit
   unfoldable pub embeddedArray : Writer → StructDef → Member → Member → List ℕ → Bytes → M Bytes
   embeddedArray w d e x rs buf =
       bind (elementRun E w d e x (Kinds.kindOf (x .type)) rs) λ o.
       optM o (ret buf) λ r. need d e (length (r .bytes)) buf (ret (over buf (e .offset) (r .bytes)))
 
-  -- "By pointer iff subtype 0, or subtype 4 with an element whose *subtype* is 3"; embedded, "n = min(items, reference >> 16)"
+  -- by pointer where the subtype is 0, or 4 and the elements' subtype 3; else inline, with no more items than the reference's high half says
   unfoldable pub arrayOf : Writer → StructDef → Member → Member → List ℕ → Bytes → M Bytes
   arrayOf w d e x rs buf =
       ifM (eqb (e .subtype) 0 || (eqb (e .subtype) 4 && eqb (x .subtype) 3)) (pointedArray w d e x rs buf)
@@ -91,7 +92,7 @@ module _ (E : Env) where
   abbrev pub isArrayValue : Row → Bool
   isArrayValue v = eqb (v .kind) Array || eqb (v .kind) Null || (eqb (v .kind) Str && isEmpty (trimmed (textOf (E .sheet) v)))
 
-  -- remark 5: "no ARRAYINFO"
+  -- an array: remark 5, "no ARRAYINFO", then remark 2
   unfoldable pub arrayMember : Writer → StructDef → Member → Value → Bytes → M Bytes
   arrayMember w d e v buf =
       optM (arrayInfo d e) (leaves d e 5 0 buf) λ x.
@@ -101,14 +102,14 @@ module _ (E : Env) where
   unfoldable pub pairElement : Writer → StructDef → ℕ × ℕ → M (Option Bytes)
   pairElement w i p = bind (w i (pairFields i p)) λ bs. ret (some bs)
 
-  -- remark 7: "no pair definition (hash)"
+  -- a map's pairs; without pairs it ends here, else remark 7: "no pair definition (hash)"
   unfoldable pub mapOf : Writer → StructDef → Member → ℕ → List (ℕ × ℕ) → Bytes → M Bytes
   mapOf w d e h ps buf =
       ifM (isEmpty ps) (ret buf)
       (optM (E .defs .struct h) (leaves d e 7 h buf) λ i.
       laidRun (run E (i .size) h (pairElement w i) ps) (length ps) (e .offset + 8) buf)
 
-  -- remark 6: "map subtype"; "an empty supported map still holds 0x01000000"
+  -- a map: remark 6, "map subtype", then 1, then 2; "an empty supported map still holds 0x01000000"
   unfoldable pub mapMember : Writer → StructDef → Member → Value → Bytes → M Bytes
   mapMember w d e v buf =
       ifM (eqb (e .subtype) 1)
@@ -118,7 +119,7 @@ module _ (E : Env) where
       (wrong d e v buf)))
       (leaves d e 6 (e .subtype) buf)
 
-  -- remark 13: "member type"
+  -- a member by its kind; remark 13: "member type"
   unfoldable pub member : Writer → StructDef → Member → Kinds.Kind → Value → Bytes → M Bytes
   member w d e (Kinds.scalar s) v buf = scalarMember E s d e v buf
   member w d e Kinds.text v buf = textMember E d e v buf
