@@ -1,20 +1,19 @@
 -- The blocks of a layout: 4,095 at most, each with a name of 4 bytes.
 -- Assumes nothing.
-use Prim.Native.Nat.{ℕ, suc, _+_, _-_, _^_, _≤_, _<_}
+use Prim.Native.Nat.{ℕ, suc, _-_, _^_, _≤_, _<_}
 use native.Mathlib.Omega.{arith}
 use mathlib.Core.Path.{subst}
-use mathlib.Core.Bool.{Bool, true, false, cond, _&&_}
 use mathlib.Core.List.{List, [], _∷_}
-use lib.Dec.{eqb, leb}
 use lib.ListN.{length}
 use borrow.Author.Tests.{leb-true}
 use Rattle.numbers.specs.Words.{Bytes}
 use Rattle.numbers.proofs.Bytes.{Octets}
 use Rattle.schema.proofs.Bounds.{All, Fits, winning-fits}
-use Rattle.layout.specs.State.{Block, Core, Env, spot, past, file, maxBlock, useStructC, useEnumC}
+use Rattle.layout.specs.State.{Block, Core, Env, spot, file, useStructC, useEnumC}
 use Rattle.layout.specs.Build.{Laid}
 use Rattle.layout.proofs.Writers.{Prims}
 use Rattle.layout.proofs.CoreOnly.{Allows, onCore, core-prims}
+use Rattle.layout.proofs.Tiling.{spot-case}
 use Rattle.layout.proofs.Named.{Named, named-winning}
 use Rattle.layout.proofs.Made.{Made, envOf, reached}
 
@@ -32,25 +31,14 @@ pub record Numbered (c : Core) : Type 0 where
 -- where an item goes
 
 spot-most : (n need : ℕ) (bs : List Block) (k : ℕ) → length bs ≤ k → suc (spot n need bs .before) ≤ k → length (spot n need bs .blocks) ≤ k
-unfolding spot
-spot-most n need [] k h g = omega (arith, g)
-spot-most n need (b ∷ bs) k h g = go (eqb (b .name) n && leb (b .len + need) maxBlock) (spot-most n need bs (k - 1) (omega (arith, h))) g
-  where
-    go : (t : Bool) → (suc (spot n need bs .before) ≤ k - 1 → length (spot n need bs .blocks) ≤ k - 1)
-        → suc (cond t (record { before = 0; start = b .len; blocks = (record { name = n; len = b .len + need }) ∷ bs }) (past b (spot n need bs)) .before) ≤ k
-        → length (cond t (record { before = 0; start = b .len; blocks = (record { name = n; len = b .len + need }) ∷ bs }) (past b (spot n need bs)) .blocks) ≤ k
-    go true i q = omega (arith, h)
-    go false i q = omega (arith, h, q, i (omega (arith, q)))
+spot-most n need [] k h g = unfold spot in omega (arith, g)
+spot-most n need (b ∷ bs) k h g =
+    spot-case (λ p. suc (p .before) ≤ k → length (p .blocks) ≤ k) n need b bs (λ q. omega (arith, h))
+    (λ q. omega (arith, spot-most n need bs (k - 1) (omega (arith, h)) (omega (arith, q)), h, q)) g
 
 spot-names : (n need : ℕ) (bs : List Block) → Short n → ShortNames bs → ShortNames (spot n need bs .blocks)
-unfolding spot
-spot-names n need [] h f = (h, tt)
-spot-names n need (b ∷ bs) h f = go (eqb (b .name) n && leb (b .len + need) maxBlock) (spot-names n need bs h (f .1))
-  where
-    go : (t : Bool) → ShortNames (spot n need bs .blocks)
-        → ShortNames (cond t (record { before = 0; start = b .len; blocks = (record { name = n; len = b .len + need }) ∷ bs }) (past b (spot n need bs)) .blocks)
-    go true r = (h, f .1)
-    go false r = (f .0, r)
+spot-names n need [] h f = unfold spot in (h, tt)
+spot-names n need (b ∷ bs) h f = spot-case (λ p. ShortNames (p .blocks)) n need b bs (h, f .1) (f .0, spot-names n need bs h (f .1))
 
 -- names
 

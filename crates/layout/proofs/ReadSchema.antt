@@ -40,13 +40,7 @@ module _ (b : Bytes) where
 pub rows-length : (at : ℕ) (bs : List Block) → length (blockRows at bs) ≡ 16 * length bs
 unfolding blockRows
 rows-length at [] = refl
-rows-length at (b ∷ bs) =
-    omega (
-      arith,
-      length-append (words (b .name ∷ at ∷ 0 ∷ b .len ∷ [])) (blockRows (at + b .len) bs),
-      length-words (b .name ∷ at ∷ 0 ∷ b .len ∷ []),
-      rows-length (at + b .len) bs,
-    )
+rows-length at (b ∷ bs) = rw (length-append, length-words, rows-length (at + b .len) bs) (omega arith)
 
 module _ (root : ℕ) (bs : List Block) where
   abbrev pmap-heads : List ℕ
@@ -57,17 +51,7 @@ module _ (root : ℕ) (bs : List Block) where
 
   pub pmap-length : length (pmapOf root bs) ≡ 16 + 16 * length bs
   unfolding pmapOf
-  pmap-length =
-      omega (
-        arith,
-        length-append (words pmap-heads) pmap-rest,
-        length-append (bytesOf 2 (length bs)) (bytesOf 2 0x7070 ++ blockRows 16 bs),
-        length-append (bytesOf 2 0x7070) (blockRows 16 bs),
-        length-words pmap-heads,
-        length-bytes 2 (length bs),
-        length-bytes 2 0x7070,
-        rows-length 16 bs,
-      )
+  pmap-length = rw (length-append, length-append, length-append, length-words, length-bytes 2 (length bs), length-bytes 2 0x7070, rows-length 16 bs) (omega arith)
 
   pub pmap-word : root < 256 ^ 4 → length (pmapOf root bs) < 256 ^ 4 → (k j : ℕ) → k < 3 → 0 + 4 * k ≡ j → readAt 4 (pmapOf root bs) j ≡ getD pmap-heads k 0
   unfolding pmapOf

@@ -3,10 +3,10 @@
 use Prim.Native.Nat.{ℕ, zero, suc, _+_, _-_, _≤_}
 use native.Mathlib.Omega.{arith}
 use mathlib.Core.Path.{_≡_, refl, sym, _∙_, ap, subst}
-use mathlib.Core.Bool.{Bool, true, false, cond, _&&_, false≢true}
+use mathlib.Core.Bool.{Bool, true, false, _&&_, false≢true}
 use mathlib.Core.List.{List, [], _∷_, _++_}
 use mathlib.Core.Option.{Option, none, some}
-use lib.Dec.{eqb, leb}
+use lib.Dec.{leb}
 use lib.ListN.{length}
 use borrow.Author.Tests.{leb-true}
 use Rattle.numbers.specs.Words.{Bytes}
@@ -15,14 +15,14 @@ use Rattle.value.specs.Rows.{Fields, row}
 use Rattle.schema.specs.Defs.{StructDef}
 use Rattle.pso.specs.Reader as R
 use Rattle.layout.specs.State
-use Rattle.layout.specs.State.{Item, Block, Core, State, Env, Out, done, stop, M, Spot, spot, past, file, maxBlock, pointerTo, after, bind, addItem, emptyState}
+use Rattle.layout.specs.State.{Item, Block, Core, State, Env, Out, done, stop, M, spot, file, pointerTo, after, bind, addItem, emptyState}
 use Rattle.layout.specs.Members.{nth}
 use Rattle.layout.specs.Write.{root, write}
 use Rattle.layout.specs.Build.{Laid}
 use Rattle.layout.specs.Assemble.{joined, itemsIn}
 use Rattle.layout.specs.Demand3.{placesFrom, readBack, blockNo, pointerOf, pointerBlock, RootLast}
 use Rattle.layout.proofs.Items.{bytesIn, tile-rest}
-use Rattle.layout.proofs.Tiling.{lenAt, Tiled, tiled, says-block, says-start}
+use Rattle.layout.proofs.Tiling.{spot-case, lenAt, Tiled, tiled, says-block, says-start}
 use Rattle.layout.proofs.Places.{place-length, own-tile}
 use Rattle.layout.proofs.Named.{named-winning}
 use Rattle.layout.proofs.Made.{Made, envOf}
@@ -47,17 +47,12 @@ abbrev Ended : ℕ → Out ℕ → Type 0
 Ended n (done p s) = Last n p (s .core)
 Ended n (stop e es) = Unit {0}
 
+-- the block that an item goes to has the item's name
 spot-here : (n need : ℕ) (bs : List Block) → (b : Block) × (nth (spot n need bs .blocks) (spot n need bs .before) ≡ some b) × (b .name ≡ n)
-unfolding spot nth
-spot-here n need [] = (_, refl, refl)
-spot-here n need (b ∷ bs) = go (eqb (b .name) n && leb (b .len + need) maxBlock) (spot-here n need bs)
-  where
-    at : Spot → ℕ → Type 0
-    at p m = (c : Block) × (nth (p .blocks) (p .before) ≡ some c) × (c .name ≡ m)
-
-    go : (t : Bool) → at (spot n need bs) n → at (cond t (record { before = 0; start = b .len; blocks = (record { name = n; len = b .len + need }) ∷ bs }) (past b (spot n need bs))) n
-    go true h = (_, refl, refl)
-    go false h = h
+unfolding nth
+spot-here n need [] = unfold spot in (_, refl, refl)
+spot-here n need (b ∷ bs) =
+    spot-case (λ p. (c : Block) × (nth (p .blocks) (p .before) ≡ some c) × (c .name ≡ n)) n need b bs (_, refl, refl) (spot-here n need bs)
 
 given-filed : (n : ℕ) (b : Bool) (r : ℕ × Core) → (b ≡ true → Last n (r .0) (r .1)) → Filed n (given b r)
 given-filed n true r h = h refl

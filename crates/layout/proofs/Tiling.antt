@@ -35,6 +35,19 @@ pub record Tiled (c : Core) : Type 0 where
 
 -- where an item goes
 
+-- the end of the first block
+abbrev pub atEnd : ℕ → ℕ → Block → List Block → Spot
+atEnd n need b bs = record { before = 0; start = b .len; blocks = record { name = n; len = b .len + need } ∷ bs }
+
+-- an item goes to the end of the first block, or further on
+pub spot-case : (P : Spot → Type 0) (n need : ℕ) (b : Block) (bs : List Block) → P (atEnd n need b bs) → P (past b (spot n need bs)) → P (spot n need (b ∷ bs))
+unfolding spot
+spot-case P n need b bs p q = go (eqb (b .name) n && leb (b .len + need) maxBlock)
+  where
+    go : (t : Bool) → P (cond t (atEnd n need b bs) (past b (spot n need bs)))
+    go true = p
+    go false = q
+
 record Good (need : ℕ) (bs : List Block) (p : Spot) : Type 0 where
   start-is : p .start ≡ lenAt (p .before) bs
   grown : lenAt (p .before) (p .blocks) ≡ lenAt (p .before) bs + need
@@ -42,11 +55,11 @@ record Good (need : ℕ) (bs : List Block) (p : Spot) : Type 0 where
   inside : p .before < length (p .blocks)
   more : length bs ≤ length (p .blocks)
 
-here : (n need : ℕ) (b : Block) (bs : List Block) → Good need (b ∷ bs) (record { before = 0; start = b .len; blocks = (record { name = n; len = b .len + need }) ∷ bs })
+here : (n need : ℕ) (b : Block) (bs : List Block) → Good need (b ∷ bs) (atEnd n need b bs)
 unfolding lenAt
 here n need b bs = record { start-is = refl; grown = refl; others = o; inside = omega arith; more = omega arith }
   where
-    o : (k : ℕ) → (0 ≡ k → ⊥) → lenAt k ((record { name = n; len = b .len + need }) ∷ bs) ≡ lenAt k (b ∷ bs)
+    o : (k : ℕ) → (0 ≡ k → ⊥) → lenAt k (atEnd n need b bs .blocks) ≡ lenAt k (b ∷ bs)
     o zero h = absurd (h refl)
     o (suc k) h = refl
 
@@ -59,18 +72,12 @@ beyond need b bs p g = record { start-is = g .start-is; grown = g .grown; others
     o (suc k) h = g .others k (λ e. h (ap suc e))
 
 spot-good : (n need : ℕ) (bs : List Block) → Good need bs (spot n need bs)
-unfolding spot lenAt
-spot-good n need [] = record { start-is = refl; grown = omega arith; others = o; inside = omega arith; more = omega arith }
+spot-good n need [] = unfold spot lenAt in (record { start-is = refl; grown = omega arith; others = o; inside = omega arith; more = omega arith })
   where
-    o : (k : ℕ) → (0 ≡ k → ⊥) → lenAt k ((record { name = n; len = need }) ∷ []) ≡ lenAt k []
+    o : (k : ℕ) → (0 ≡ k → ⊥) → lenAt k (record { name = n; len = need } ∷ []) ≡ lenAt k []
     o zero h = absurd (h refl)
-    o (suc k) h = refl
-spot-good n need (b ∷ bs) = go (eqb (b .name) n && leb (b .len + need) maxBlock) (spot-good n need bs)
-  where
-    go : (t : Bool) → Good need bs (spot n need bs)
-        → Good need (b ∷ bs) (cond t (record { before = 0; start = b .len; blocks = (record { name = n; len = b .len + need }) ∷ bs }) (past b (spot n need bs)))
-    go true g = here n need b bs
-    go false g = beyond need b bs (spot n need bs) g
+    o (suc k) h = unfold lenAt in refl
+spot-good n need (b ∷ bs) = spot-case (Good need (b ∷ bs)) n need b bs (here n need b bs) (beyond need b bs (spot n need bs) (spot-good n need bs))
 
 -- an item among others
 pub all-mid : (n : ℕ) (a : List Item) (i : Item) (b : List Item) → AllIn n (a ++ (i ∷ b))

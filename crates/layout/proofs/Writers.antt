@@ -267,4 +267,7 @@ module _ (E : Env) (C : Claim) (h : Prims E C) where
 
   pub k-root : (d : StructDef) (fs : Fields) → h .starts d → Keeps C (root E d fs)
   unfolding root
-  k-root d fs q = k-bind C _ _ (k-write 32 32 d fs q) (λ bs. h .add-keeps (d .name) bs (h .named d q))
+  k-root d fs q = search (along, add-root, k-write 32 32 d fs q)
+    where
+      add-root : (bs : Bytes) → Keeps C (addItem (d .name) bs)
+      add-root bs = h .add-keeps (d .name) bs (h .named d q)
