@@ -5,7 +5,7 @@ use mathlib.Core.List.{List, [], _∷_, _++_}
 use Prim.Native.Nat.{ℕ, zero, suc, _+_, _≤_, _<_}
 use native.Mathlib.Omega.{arith}
 use borrow.Author.Tests.{eq-eqb, ne-eqb, lt-ltb, le-ltb, le-leb, lt-leb}
-use lib.Dec.{eqb, leb, ltb}
+use lib.Dec.{eqb, leb}
 use lib.ListN.{length, take, drop, replicate, drop-of-length-le}
 use lib.Seq.{drop-drop}
 use Rattle.numbers.specs.Words.{Bytes, isEmpty}
@@ -130,7 +130,7 @@ module _ (T : Bytes) where
   filled-four r s t u =
       next (at r) (Numbers.floatsOf T (s ∷ t ∷ u ∷ [])) _
       ∙ same-then (at r) _ _ (λ a. next (at s) (Numbers.floatsOf T (t ∷ u ∷ [])) _
-        ∙ same-then (at s) _ _ (λ b. next (at t) (Numbers.floatsOf T (u ∷ [])) _ ∙ same-then (at t) _ _ (λ c. next (at u) (fits []) _)))
+      ∙ same-then (at s) _ _ (λ b. next (at t) (Numbers.floatsOf T (u ∷ [])) _ ∙ same-then (at t) _ _ (λ c. next (at u) (fits []) _)))
 
   -- the first four of the rows f, f + 1, .. of which there are c
   rows : (f c : ℕ) → four (Answer.itemAt T f c 0) (Answer.itemAt T f c 1) (Answer.itemAt T f c 2) (Answer.itemAt T f c 3) ≡ filled (take 4 (Rows.rowsFrom f c))
@@ -141,15 +141,15 @@ module _ (T : Bytes) where
       let e2 : f + 2 ≡ suc (suc f) = omega arith in
       let e3 : f + 3 ≡ suc (suc (suc f)) = omega arith in
       by c e0 e1 e2 e3 where
-    by : (c : ℕ) → f + 0 ≡ f → f + 1 ≡ suc f → f + 2 ≡ suc (suc f) → f + 3 ≡ suc (suc (suc f))
-      → four (Answer.itemAt T f c 0) (Answer.itemAt T f c 1) (Answer.itemAt T f c 2) (Answer.itemAt T f c 3) ≡ filled (take 4 (Rows.rowsFrom f c))
-    by zero e0 e1 e2 e3 = refl
-    by (suc zero) e0 e1 e2 e3 = rw e0 (sym (filled-one f))
-    by (suc (suc zero)) e0 e1 e2 e3 = rw (e0, e1) (sym (filled-two f (suc f)))
-    by (suc (suc (suc zero))) e0 e1 e2 e3 = rw (e0, e1, e2) (sym (filled-three f (suc f) (suc (suc f))))
-    by (suc (suc (suc (suc m)))) e0 e1 e2 e3 =
-        let c = suc (suc (suc (suc m))) in
-        rw (lt-ltb 0 c (omega arith), lt-ltb 1 c (omega arith), lt-ltb 2 c (omega arith), lt-ltb 3 c (omega arith), e0, e1, e2, e3) (sym (filled-four f (suc f) (suc (suc f)) (suc (suc (suc f)))))
+        by : (c : ℕ) → f + 0 ≡ f → f + 1 ≡ suc f → f + 2 ≡ suc (suc f) → f + 3 ≡ suc (suc (suc f))
+            → four (Answer.itemAt T f c 0) (Answer.itemAt T f c 1) (Answer.itemAt T f c 2) (Answer.itemAt T f c 3) ≡ filled (take 4 (Rows.rowsFrom f c))
+        by zero e0 e1 e2 e3 = refl
+        by (suc zero) e0 e1 e2 e3 = rw e0 (sym (filled-one f))
+        by (suc (suc zero)) e0 e1 e2 e3 = rw (e0, e1) (sym (filled-two f (suc f)))
+        by (suc (suc (suc zero))) e0 e1 e2 e3 = rw (e0, e1, e2) (sym (filled-three f (suc f) (suc (suc f))))
+        by (suc (suc (suc (suc m)))) e0 e1 e2 e3 =
+            let c = suc (suc (suc (suc m))) in
+            rw (lt-ltb 0 c (omega arith), lt-ltb 1 c (omega arith), lt-ltb 2 c (omega arith), lt-ltb 3 c (omega arith), e0, e1, e2, e3) (sym (filled-four f (suc f) (suc (suc f)) (suc (suc (suc f)))))
 
   -- what is given of the four: all, or too few
   enough : (m : Fit (List ℕ)) (v : Vector) (t : Bool) → t ≡ true → Answer.vecIs v ≡ fitThen m (λ xs. fits (take 4 (xs ++ replicate 4 0)))

@@ -5,6 +5,10 @@ ghost use Rattle.value.specs.Rows.{rowsFrom};
 ghost use Rattle.coerce.specs.Text.{parts};
 ghost use Rattle.coerce.specs.Numbers;
 ghost use Rattle.coerce.specs.Answer;
+use crate::float::parses_float;
+use crate::text::run_of;
+use crate::whole::Bits;
+use crate::whole::float_of;
 use numbers::words::part_from;
 use numbers::words::part_to;
 use value::Row;
@@ -12,10 +16,6 @@ use value::child_count;
 use value::first_child;
 use value::read_row;
 use value::text_of;
-use crate::text::run_of;
-use crate::float::parses_float;
-use crate::whole::Bits;
-use crate::whole::float_of;
 
 // The four numbers, a value that does not fit, or a float's text (refusal 11).
 pub enum Vector {
