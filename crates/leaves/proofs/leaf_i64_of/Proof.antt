@@ -5,7 +5,7 @@ use lib.IntN.{ℤ}
 use borrow.Author.Needs.{needs}
 use Rattle.leaves.specs.declared.Signed.{Signed}
 use Rattle.leaves.specs.Codes
-use Rattle.numbers.proofs.Answers.{signed-fits, read-some}
+use Rattle.numbers.proofs.Integers.{signed-fits, read-some}
 use Rattle.numbers.specs.Radix.{signed}
 use Rattle.leaves.proofs.leaf_i64_of.Statement.{statement}
 use Rattle.leaves.proofs.leaf_i64_of.Tie as tie
