@@ -1,9 +1,13 @@
 //! The command line.
+use crate::antt;
+use crate::bytes::{hex, unhex};
 use crate::compare;
 use crate::gen::{self, Case, Size};
-use crate::model::{build, GENEROUS};
+use crate::model::{build, Limits, Outcome, GENEROUS, MAX_CHARGE};
+use crate::record;
 use crate::reference_side::silence_panics;
 use crate::rng::Rng;
+use crate::shrink;
 use crate::stats::Stats;
 use crate::subject::{self, process::Process, stream, Subject};
 use std::fs::File;
@@ -15,6 +19,10 @@ differential/run expect REQUESTS REPLIES      writes the replies that the model 
 differential/run judge REQUESTS REPLIES       compares replies with what the model expects
 differential/run serve                        answers requests by the model
 differential/run case SEED NUMBER             prints a case
+differential/run try SHEET SCHEMA [WORK OUT RECORDS]   one case, as hexadecimal digits
+differential/run read FILE                    one file for the reader, as hexadecimal digits
+differential/run record vectors SEED COUNT DIR     cases with their replies, for a program that replays them
+differential/run record cases SEED DIR [BUILDS LAWS READS]   cases as theorems, into crates/cases/specs
 options: --size tiny|small|full   how large cases may be (stream: small, else full)
          --process COMMAND        a program under test instead of the library
          --branches               prints every branch, not only those that were never reached";
@@ -76,6 +84,14 @@ fn command(o: &Options) -> Result<i32, String> {
         ["expect", requests, replies] => expect(requests, replies).map_err(io).map(|_| 0),
         ["judge", requests, replies] => judge(requests, replies).map_err(io),
         ["serve"] => serve().map_err(io).map(|_| 0),
+        ["try", sheet, schema, ref rest @ ..] => try_case(sheet, schema, rest),
+        ["read", file] => try_file(file),
+        ["record", "vectors", seed, count, dir] => record::vectors(number(seed)?, number(count)? as usize, dir).map_err(io).map(|_| 0),
+        ["record", "cases", seed, dir] => antt::cases(number(seed)?, 240, 60, 80, dir).map_err(io).map(|_| 0),
+        ["record", "cases", seed, dir, builds, laws, reads] => {
+            let [b, l, r] = [builds, laws, reads].map(|w| number(w).unwrap_or(0) as usize);
+            antt::cases(number(seed)?, b, l, r, dir).map_err(io).map(|_| 0)
+        }
         ["case", seed, n] => print_case(number(seed)?, number(n)?, o.size.unwrap_or(Size::Full)),
         [] => compare_all(o, 1, 100_000),
         [seed] => compare_all(o, number(seed)?, 100_000),
@@ -85,7 +101,7 @@ fn command(o: &Options) -> Result<i32, String> {
 }
 
 /// Case `number` of a seed, with the model's answer for generous limits and its family.
-pub fn case_of(seed: u64, number: u64, size: Size) -> (Case, crate::model::Outcome, usize) {
+pub fn case_of(seed: u64, number: u64, size: Size) -> (Case, Outcome, usize) {
     let mut rng = Rng::of(seed, number);
     let (family, sheet, schema) = gen::inputs(&mut rng, size);
     let generous = build(&sheet, &schema, &GENEROUS);
@@ -126,6 +142,7 @@ fn compare_all(o: &Options, seed: u64, count: u64) -> Result<i32, String> {
         stats.families[family] += 1;
         if let Err(e) = compare::check(&case, &generous, &mut subject, &mut stats) {
             println!("DIFFERENCE in case {n} of seed {seed}: {e}");
+            report(&case, &mut subject);
             return Ok(1);
         }
     }
@@ -134,7 +151,9 @@ fn compare_all(o: &Options, seed: u64, count: u64) -> Result<i32, String> {
         match compare::read_file(&file, &mut subject, &mut stats) {
             Ok(r) => stats.files[r.err().unwrap_or(0) as usize] += 1,
             Err(e) => {
-                println!("DIFFERENCE in file {n} of seed {seed}: {e}\nfile {}", crate::bytes::hex(&file));
+                println!("DIFFERENCE in file {n} of seed {seed}: {e}");
+                let mut fails = |f: &[u8]| compare::read_file(f, &mut subject, &mut Stats::new()).is_err();
+                println!("file {}", hex(&shrink::shrink_file(&file, &mut fails)));
                 return Ok(1);
             }
         }
@@ -142,6 +161,32 @@ fn compare_all(o: &Options, seed: u64, count: u64) -> Result<i32, String> {
     stats.print(o.branches);
     println!("no difference");
     Ok(0)
+}
+
+/// Prints the smallest failing case found.
+fn report(case: &Case, subject: &mut Option<Box<dyn Subject>>) {
+    let mut last = String::new();
+    let by_itself = |c: &Case, subject: &mut Option<Box<dyn Subject>>| {
+        let outcome = build(&c.sheet, &c.schema, &c.limits);
+        subject.as_mut().map_or(Ok(()), |s| compare::against_subject(c, &outcome, s.as_mut()))
+    };
+    // Where the call by itself fails, the other checks are left out.
+    let alone = by_itself(case, subject).is_err();
+    let mut fails = |c: &Case| {
+        let answer = if alone {
+            by_itself(c, subject)
+        } else {
+            compare::check(c, &build(&c.sheet, &c.schema, &GENEROUS), subject, &mut Stats::new())
+        };
+        answer.map_err(|e| last = e).is_err()
+    };
+    let small = shrink::shrink(case, &mut fails);
+    let l = &small.limits;
+    println!("smallest found: {last}");
+    println!("sheet {}\nschema {}\nwork {} out {} records {}", hex(&small.sheet), hex(&small.schema), l.work, l.out, l.records);
+    let outcome = build(&small.sheet, &small.schema, l);
+    print!("expected ");
+    show(&outcome);
 }
 
 fn write_stream(seed: u64, count: u64, size: Size, path: &str) -> io::Result<()> {
@@ -198,13 +243,52 @@ fn serve() -> io::Result<()> {
     Ok(())
 }
 
+/// One case: the model's answer, and the comparison.
+fn try_case(sheet: &str, schema: &str, rest: &[&str]) -> Result<i32, String> {
+    let bytes = |s: &str| unhex(s).ok_or("no hexadecimal digits".to_string());
+    let (sheet, schema) = (bytes(sheet)?, bytes(schema)?);
+    let generous = build(&sheet, &schema, &GENEROUS);
+    let limits = match rest {
+        [work, out, records] => Limits { work: number(work)?, out: number(out)?, records: number(records)? },
+        _ => Limits { work: gen::limits::work_for(generous.index_entries.unwrap_or(0), MAX_CHARGE), out: 1 << 20, records: 1 << 10 },
+    };
+    let case = Case { sheet, schema, limits };
+    println!("model: code {}, charge {}, {} remarks", generous.code(), generous.charge, generous.remarks);
+    show(&build(&case.sheet, &case.schema, &case.limits));
+    let (mut subject, mut stats) = (linked(), Stats::new());
+    let answer = compare::check(&case, &generous, &mut subject, &mut stats);
+    stats.explained.keys().for_each(|k| println!("intended difference: {k}"));
+    println!("{}", answer.as_ref().map_or_else(|e| e.as_str(), |_| "no difference"));
+    Ok(answer.is_err() as i32)
+}
+
+fn try_file(file: &str) -> Result<i32, String> {
+    let file = unhex(file).ok_or("no hexadecimal digits")?;
+    let (mut subject, mut stats) = (linked(), Stats::new());
+    let answer = compare::read_file(&file, &mut subject, &mut stats);
+    stats.explained.keys().for_each(|k| println!("intended difference: {k}"));
+    match answer {
+        Ok(r) => println!("{r:X?}"),
+        Err(e) => {
+            println!("{e}");
+            return Ok(1);
+        }
+    }
+    Ok(0)
+}
+
+fn show(outcome: &Outcome) {
+    match &outcome.answer {
+        Ok(p) => println!("file {}\nremarks {:X?}", hex(&p.file), p.remarks),
+        Err(n) => println!("refusal {n}"),
+    }
+}
+
 fn print_case(seed: u64, n: u64, size: Size) -> Result<i32, String> {
     let (case, generous, family) = case_of(seed, n, size);
     let limited = build(&case.sheet, &case.schema, &case.limits);
-    println!("{}\nsheet {}\nschema {}", gen::FAMILIES[family].name, crate::bytes::hex(&case.sheet), crate::bytes::hex(&case.schema));
+    println!("{}\nsheet {}\nschema {}", gen::FAMILIES[family].name, hex(&case.sheet), hex(&case.schema));
     println!("{:?}\ncode {} with generous limits, {} with these", case.limits, generous.code(), limited.code());
-    if let Ok(p) = &limited.answer {
-        println!("file {}\nremarks {:X?}", crate::bytes::hex(&p.file), p.remarks);
-    }
+    show(&limited);
     Ok(0)
 }

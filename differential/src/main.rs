@@ -1,12 +1,17 @@
 //! Holds the packer and the reader against the reference and against a model of document 01.
+mod antt;
+mod antt_texts;
 mod branch;
 mod bytes;
 mod commands;
 mod compare;
 mod gen;
 mod model;
+mod record;
 mod reference_side;
 mod rng;
+mod select;
+mod shrink;
 mod stats;
 mod subject;
 

@@ -57,7 +57,7 @@ pub fn any(rng: &mut Rng, most: usize) -> Vec<u8> {
 }
 
 /// Pieces of numbers and words put together.
-fn pieces(rng: &mut Rng) -> Vec<u8> {
+pub fn pieces(rng: &mut Rng) -> Vec<u8> {
     const P: [&str; 24] = [
         "0x", "0X", "+", "-", ".", "e", "E", "1", "9", "12", "007", "fF", "G", "a", "_", "hash_", "inf", "infinity", "nan",
         "true", "false", " ", ",", "\t",
@@ -80,6 +80,18 @@ fn digits(rng: &mut Rng) -> String {
         3 => format!("0X{n:X}"),
         _ => format!("+{n}"),
     }
+}
+
+/// Every text that stands in a list here.
+pub fn known() -> Vec<Vec<u8>> {
+    let lists: [&[&str]; 5] = [&WORDS, &NUMBERS, &NOT_NUMBERS, &FLOATS, &HASHES];
+    let mut out: Vec<Vec<u8>> = vec![b"".to_vec(), b" ".to_vec(), b"TRUE ".to_vec(), b"\tFalse".to_vec(), b"\x0b\x0c7\r\n".to_vec()];
+    for t in lists.concat() {
+        if !out.contains(&t.as_bytes().to_vec()) {
+            out.push(t.as_bytes().to_vec());
+        }
+    }
+    out
 }
 
 /// A whole number; `floats` of a hundred parse as floats.

@@ -24,15 +24,6 @@ impl Tree {
         Tree::Text(s.to_vec())
     }
 
-    /// How many rows it takes.
-    pub fn rows(&self) -> usize {
-        1 + match self {
-            Tree::Array(v) | Tree::Map(v) => v.iter().map(Tree::rows).sum(),
-            Tree::Struct(_, f) => f.iter().map(|(_, t)| t.rows()).sum(),
-            _ => 0,
-        }
-    }
-
     /// The sheet: rows breadth first, texts in row order.
     pub fn sheet(&self) -> Vec<u8> {
         let mut queue: Vec<(u32, &Tree)> = vec![(0, self)];
