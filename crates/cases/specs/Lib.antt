@@ -1,4 +1,4 @@
--- Worked cases, closed by evaluation.
+-- Worked cases, closed by evaluation. Made, Laws, Read and Texts are written by differential/run record cases.
 pub mod Check
 pub mod Ten
 pub mod Records
@@ -17,8 +17,6 @@ pub mod Made10
 pub mod Made11
 pub mod Made12
 pub mod Made13
-pub mod Made14
-pub mod Made15
 pub mod Laws00
 pub mod Laws01
 pub mod Laws02
