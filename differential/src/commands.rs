@@ -23,6 +23,7 @@ differential/run try SHEET SCHEMA [WORK OUT RECORDS]   one case, as hexadecimal 
 differential/run read FILE                    one file for the reader, as hexadecimal digits
 differential/run record vectors SEED COUNT DIR     cases with their replies, for a program that replays them
 differential/run record cases SEED DIR [BUILDS LAWS READS]   cases as theorems, into crates/cases/specs
+differential/run bench                        times of both sides
 options: --size tiny|small|full   how large cases may be (stream: small, else full)
          --process COMMAND        a program under test instead of the library
          --branches               prints every branch, not only those that were never reached";
@@ -91,6 +92,10 @@ fn command(o: &Options) -> Result<i32, String> {
         ["record", "cases", seed, dir, builds, laws, reads] => {
             let [b, l, r] = [builds, laws, reads].map(|w| number(w).unwrap_or(0) as usize);
             antt::cases(number(seed)?, b, l, r, dir).map_err(io).map(|_| 0)
+        }
+        ["bench"] => {
+            crate::bench::bench();
+            Ok(0)
         }
         ["case", seed, n] => print_case(number(seed)?, number(n)?, o.size.unwrap_or(Size::Full)),
         [] => compare_all(o, 1, 100_000),

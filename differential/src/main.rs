@@ -1,6 +1,7 @@
 //! Holds the packer and the reader against the reference and against a model of document 01.
 mod antt;
 mod antt_texts;
+mod bench;
 mod branch;
 mod bytes;
 mod commands;
@@ -10,6 +11,7 @@ mod model;
 mod record;
 mod reference_side;
 mod rng;
+mod scene;
 mod select;
 mod shrink;
 mod stats;
