@@ -6,7 +6,7 @@ use crate::model::reader::{self, Reading};
 use crate::model::schema::Schema;
 use crate::model::state::Remark;
 use crate::model::{build, Outcome, Pack, GENEROUS};
-use crate::select::{things, Shown, CODE, REMARK};
+use crate::select::{choose, Choice, Shown};
 use std::fmt::Write;
 use std::path::Path;
 use std::{fs, io};
@@ -123,36 +123,6 @@ fn write_files(dir: &Path, name: &str, title: &str, per: usize, theorems: &[Stri
     Ok(())
 }
 
-/// How often each refusal and each remark kind is wanted.
-const EACH: u32 = 6;
-
-fn choose_made(seed: u64, count: usize) -> Vec<(Case, Outcome)> {
-    let mut shown = Shown::new(1);
-    let mut out: Vec<(Case, Outcome)> = Vec::new();
-    let wanted: Vec<u32> = (0..=9).chain(11..=14).map(|c| CODE + c).chain((1..=13).map(|k| REMARK + k)).collect();
-    for n in 0..2_000_000 {
-        let missing = wanted.iter().any(|t| shown.count(*t) < EACH);
-        if out.len() >= count && !missing {
-            break;
-        }
-        let (case, generous, _) = case_of(seed, n, Size::Tiny);
-        let (limited, list) = things(&case, &generous);
-        let fits = limited.answer.as_ref().map_or(true, |p| p.file.len() <= FILE);
-        let needed = list.iter().any(|t| wanted.contains(t) && shown.count(*t) < EACH);
-        let room = out.len() < count;
-        if !fits || !(needed || room) {
-            continue;
-        }
-        if needed {
-            shown.add(&list);
-        } else if !shown.take(&list) {
-            continue;
-        }
-        out.push((case, limited));
-    }
-    out
-}
-
 /// The rebuild has more remarks than the first building, or not.
 const MORE: u32 = 200_000;
 const SAME: u32 = 200_001;
@@ -206,7 +176,8 @@ pub fn cases(seed: u64, builds: usize, laws: usize, reads: usize, dir: &str) -> 
             fs::remove_file(path)?;
         }
     }
-    let chosen = choose_made(seed, builds);
+    let choice = Choice { seed, size: Size::Tiny, count: builds, wanted: 1, each: 6 };
+    let chosen = choose(&choice, |_, o| o.answer.as_ref().map_or(true, |p| p.file.len() <= FILE));
     let mut codes = [0; 19];
     let mut kinds = [0; 14];
     for (_, o) in &chosen {

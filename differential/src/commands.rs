@@ -26,17 +26,20 @@ differential/run record cases SEED DIR [BUILDS LAWS READS]   cases as theorems, 
 differential/run bench                        times of both sides
 options: --size tiny|small|full   how large cases may be (stream: small, else full)
          --process COMMAND        a program under test instead of the library
-         --branches               prints every branch, not only those that were never reached";
+         --branches               prints every branch, not only those that were never reached
+         --from NUMBER            begins with this case";
 
 pub struct Options {
     pub words: Vec<String>,
     pub size: Option<Size>,
     pub process: Option<String>,
     pub branches: bool,
+    /// The first case's number.
+    pub from: u64,
 }
 
 fn options(args: &[String]) -> Result<Options, String> {
-    let mut o = Options { words: Vec::new(), size: None, process: None, branches: false };
+    let mut o = Options { words: Vec::new(), size: None, process: None, branches: false, from: 0 };
     let mut it = args.iter();
     while let Some(w) = it.next() {
         let mut value = || it.next().cloned().ok_or(format!("{w} needs a value"));
@@ -51,6 +54,7 @@ fn options(args: &[String]) -> Result<Options, String> {
             }
             "--process" => o.process = Some(value()?),
             "--branches" => o.branches = true,
+            "--from" => o.from = number(&value()?)?,
             _ => o.words.push(w.clone()),
         }
     }
@@ -141,7 +145,7 @@ fn compare_all(o: &Options, seed: u64, count: u64) -> Result<i32, String> {
         (None, false) => println!("model and reference only: there is no library yet; seed {seed}"),
     }
     let mut stats = Stats::new();
-    for n in 0..count {
+    for n in o.from..o.from + count {
         let (case, generous, family) = case_of(seed, n, size);
         stats.cases += 1;
         stats.families[family] += 1;
@@ -151,7 +155,7 @@ fn compare_all(o: &Options, seed: u64, count: u64) -> Result<i32, String> {
             return Ok(1);
         }
     }
-    for n in 0..count / 3 {
+    for n in o.from..o.from + count / 3 {
         let file = file_of(seed, n, size);
         match compare::read_file(&file, &mut subject, &mut stats) {
             Ok(r) => stats.files[r.err().unwrap_or(0) as usize] += 1,

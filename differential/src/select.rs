@@ -1,6 +1,7 @@
 //! Choosing cases that show something new.
+use crate::commands::case_of;
 use crate::gen::limits::work_for;
-use crate::gen::Case;
+use crate::gen::{Case, Size};
 use crate::model::schema::Schema;
 use crate::model::{build, Outcome};
 use std::collections::HashMap;
@@ -67,4 +68,41 @@ pub fn things(case: &Case, generous: &Outcome) -> (Outcome, Vec<u32>) {
     out.sort_unstable();
     out.dedup();
     (limited, out)
+}
+
+/// What is asked of a choice of cases.
+pub struct Choice {
+    pub seed: u64,
+    pub size: Size,
+    pub count: usize,
+    /// How often a branch, a value in a place, a type is worth showing.
+    pub wanted: u32,
+    /// How often each refusal and each remark kind must be shown.
+    pub each: u32,
+}
+
+/// Cases that show something new, and every refusal but 10 and every remark kind often enough.
+pub fn choose(choice: &Choice, keep: impl Fn(&Case, &Outcome) -> bool) -> Vec<(Case, Outcome)> {
+    let mut shown = Shown::new(choice.wanted);
+    let mut out = Vec::new();
+    let must: Vec<u32> = (0..=9).chain(11..=14).map(|c| CODE + c).chain((1..=13).map(|k| REMARK + k)).collect();
+    for n in 0..2_000_000 {
+        let room = out.len() < choice.count;
+        if !room && must.iter().all(|t| shown.count(*t) >= choice.each) {
+            break;
+        }
+        let (case, generous, _) = case_of(choice.seed, n, choice.size);
+        let (limited, list) = things(&case, &generous);
+        let needed = list.iter().any(|t| must.contains(t) && shown.count(*t) < choice.each);
+        if !keep(&case, &limited) || !(needed || room) {
+            continue;
+        }
+        if needed {
+            shown.add(&list);
+        } else if !shown.take(&list) {
+            continue;
+        }
+        out.push((case, limited));
+    }
+    out
 }

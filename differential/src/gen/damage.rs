@@ -2,6 +2,11 @@
 use crate::bytes::{put_u32, u32_at};
 use crate::rng::Rng;
 
+/// Words at which sums and products of 32 bits overflow, and the sheet's own limits.
+const EDGES: [u32; 12] = [
+    0x8000_0000, 0x7FFF_FFFF, 0xFFFF_FFFF, 0x4000_0000, 0x2000_0000, 0xFFFF_FFF8, 0xFFFF_FFF4, 0xAAAA_AAAB, 16_384, 16_385, 65_535, 65_536,
+];
+
 /// A few bytes changed, cut off, added, doubled or moved.
 pub fn damage(rng: &mut Rng, bytes: &mut Vec<u8>) {
     for _ in 0..1 + rng.small(3) {
@@ -19,13 +24,13 @@ pub fn damage(rng: &mut Rng, bytes: &mut Vec<u8>) {
             2 | 3 if n >= 4 => {
                 let at = rng.below(n / 4) * 4;
                 let old = u32_at(bytes, at);
-                let new = match rng.below(6) {
+                let new = match rng.below(7) {
                     0 => old.wrapping_add(1),
                     1 => old.wrapping_sub(1),
                     2 => 0,
                     3 => rng.u32(),
                     4 => rng.below(n + 9) as u32,
-                    _ => u32::MAX,
+                    _ => *rng.pick(&EDGES),
                 };
                 put_u32(bytes, at, new);
             }

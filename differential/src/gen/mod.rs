@@ -170,7 +170,10 @@ fn scalars(rng: &mut Rng, size: Size) -> (Vec<u8>, Vec<u8>) {
 }
 
 fn damaged_sheet(rng: &mut Rng, size: Size) -> (Vec<u8>, Vec<u8>) {
-    let (mut sheet, schema) = general(rng, size);
+    let (mut sheet, mut schema) = general(rng, size);
+    if rng.chance(1, 10) {
+        damage::damage(rng, &mut schema);
+    }
     if rng.chance(1, 8) && sheet.len() > 30 {
         // A byte above 127 in the text area, if there is one.
         let at = sheet.len() - 1 - rng.below(4);

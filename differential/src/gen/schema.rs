@@ -37,6 +37,11 @@ const SCALARS: [u8; 15] = [0, 1, 2, 3, 4, 5, 6, 7, 8, 9, 0x0A, 0x14, 0x15, 0x1E,
 /// Names of raw blocks, of descriptors, and 0.
 const SPECIAL: [u32; 11] = [0, 1, 2, 4, 5, 6, 7, 12, 200, 0x100, 0xFFFF_FFFF];
 
+/// Sizes at which sums and products of 32 bits overflow, of a block and of the charge's cap.
+const LARGE: [u32; 10] = [
+    0xFFFF_FFFF, 0x8000_0000, 0xFFFF_FFF0, 0xFFFF_0001, 0x1_0000, 0x10_0000, 0x10_0001, 4_194_288, 4_194_304, 0x5555_5556,
+];
+
 fn scalar_size(ty: u8) -> u32 {
     match ty {
         0..=2 => 1,
@@ -276,7 +281,8 @@ impl Maker<'_> {
         let members = self.settle();
         let size = match self.rng.below(100) {
             x if x < self.mood.odd / 2 => self.cursor.saturating_sub(self.rng.below(9) as u32),
-            x if x < self.mood.odd => self.rng.below(40) as u32,
+            x if x < self.mood.odd * 9 / 10 => self.rng.below(40) as u32,
+            x if x < self.mood.odd => *self.rng.pick(&LARGE),
             x if x > 90 => self.cursor + self.rng.below(16) as u32,
             _ => self.cursor,
         };

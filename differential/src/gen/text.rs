@@ -131,6 +131,9 @@ pub fn hash(rng: &mut Rng) -> Vec<u8> {
 
 /// Names parted by commas and blanks.
 pub fn names(rng: &mut Rng) -> Vec<u8> {
+    if rng.chance(1, 20) {
+        return rng.pick(&[",", " , ", ",,\t,", "\n"]).as_bytes().to_vec();
+    }
     let mut out = Vec::new();
     for _ in 0..rng.small(6) {
         out.extend_from_slice(rng.pick(&WORDS).as_bytes());

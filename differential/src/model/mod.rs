@@ -1,6 +1,7 @@
 //! Document 01, written a second time: the exact answer for every input.
 pub mod assemble;
 pub mod coerce;
+pub mod compound;
 pub mod number;
 pub mod reader;
 pub mod run;
