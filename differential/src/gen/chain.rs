@@ -24,11 +24,11 @@ fn members(link: Option<Link>, next: u32, next_size: u32) -> (Vec<Member>, u32) 
     let mut out = vec![member(0x41, 6, 0, 0, 0)];
     let (more, size) = match link {
         None => (vec![], 4),
-        Some(Inline) => (vec![member(0x42, 0x0C, 0, 4, next)], 4 + next_size),
+        Some(Inline) => (vec![member(0x42, 0x0C, 0, 4, next)], next_size.saturating_add(4)),
         Some(Pointer) => (vec![member(0x42, 0x0C, 3, 4, next)], 12),
         Some(Run) => (vec![member(ARRAYINFO, 0x0C, 0, 0, next), member(0x42, 0x0D, 0, 4, 1)], 20),
         Some(PointerRun) => (vec![member(ARRAYINFO, 0x0C, 3, 0, next), member(0x42, 0x0D, 0, 4, 1)], 20),
-        Some(Embedded) => (vec![member(ARRAYINFO, 0x0C, 0, 0, next), member(0x42, 0x0D, 1, 4, 0x1_0001)], 4 + next_size),
+        Some(Embedded) => (vec![member(ARRAYINFO, 0x0C, 0, 0, next), member(0x42, 0x0D, 1, 4, 0x1_0001)], next_size.saturating_add(4)),
         Some(Map) => (vec![member(ARRAYINFO, 0x0C, 0, 0, next), member(0x42, 0x10, 1, 4, 1)], 28),
     };
     out.extend(more);
@@ -57,12 +57,15 @@ fn fields(links: &[Link], i: usize) -> Vec<(u32, Tree)> {
 }
 
 /// A chain of `links.len() + 1` structures.
-fn chained(links: &[Link]) -> (Tree, Plan) {
+fn chained(links: &[Link], last_size: Option<u32>) -> (Tree, Plan) {
     let n = links.len();
     let mut defs = Vec::new();
     let mut next_size = 0;
     for i in (0..=n).rev() {
-        let (m, size) = members(links.get(i).copied(), 0x5000 + i as u32 + 1, next_size);
+        let (m, mut size) = members(links.get(i).copied(), 0x5000 + i as u32 + 1, next_size);
+        if let (true, Some(large)) = (i == n, last_size) {
+            size = large;
+        }
         next_size = size;
         defs.push((0x5000 + i as u32, Body::Structure(0, size, 0, m)));
     }
@@ -115,7 +118,9 @@ pub fn chain(rng: &mut Rng, size: Size) -> (Vec<u8>, Vec<u8>) {
         _ => &[Inline, Inline, Pointer, Run, PointerRun, Embedded, Map],
     };
     let links: Vec<Link> = (0..n).map(|_| *rng.pick(kinds)).collect();
-    let (tree, plan) = chained(&links);
+    // The last structure may be too large for the charge: 9 against 8.
+    let last_size = rng.chance(1, 10).then(|| *rng.pick(&super::edges::LARGE));
+    let (tree, plan) = chained(&links, last_size);
     (tree.sheet(), plan.bytes())
 }
 

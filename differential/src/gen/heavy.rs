@@ -146,7 +146,7 @@ pub fn full_blocks(rng: &mut Rng, _size: Size) -> (Vec<u8>, Vec<u8>) {
 
 /// As many blocks as there can be, one less or one more.
 pub fn many_blocks(rng: &mut Rng, _size: Size) -> (Vec<u8>, Vec<u8>) {
-    let n = rng.range(4_091, 4_095);
+    let n = rng.range(4_092, 4_094);
     let size = rng.below(5) as u32;
     let mut defs: Vec<(u32, Body)> = (0..n).map(|k| (0x1_0000 + k as u32, Body::Structure(0, size, 0, Vec::new()))).collect();
     let root = vec![member(ARRAYINFO, 0x0C, 3, 0, 0), member(0x41, 0x0D, 0, 0, 0), member(0x42, 0x0B, 1, 16, 0)];

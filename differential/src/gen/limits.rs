@@ -14,6 +14,10 @@ pub fn limits(rng: &mut Rng, generous: &Outcome, size: Size) -> Limits {
     let length = generous.answer.as_ref().map_or(100, |p| p.file.len() as u64);
     let (charge, remarks) = (generous.charge, generous.remarks as u64);
     let slack = |rng: &mut Rng, n: usize| rng.small(n) as u64;
+    if generous.code() == 9 && size == Size::Full && rng.chance(1, 2) {
+        // More work than the cap can use.
+        return Limits { work: work_for(entries, MAX_CHARGE) + slack(rng, 40), out: 1_000, records: remarks + 4 };
+    }
     let mut l = Limits {
         work: work_for(entries, charge) + slack(rng, 4_000),
         out: length + slack(rng, 300),

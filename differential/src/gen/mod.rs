@@ -1,6 +1,7 @@
 //! Cases by seed.
 pub mod chain;
 pub mod damage;
+pub mod edges;
 pub mod files;
 pub mod heavy;
 pub mod limits;
@@ -38,7 +39,7 @@ pub enum Size {
 
 pub struct Family {
     pub name: &'static str,
-    /// Of 100,000 cases.
+    /// Its share of the cases.
     pub weight: usize,
     size: Size,
     make: fn(&mut Rng, Size) -> (Vec<u8>, Vec<u8>),
@@ -48,22 +49,27 @@ const fn family(name: &'static str, weight: usize, size: Size, make: fn(&mut Rng
     Family { name, weight, size, make }
 }
 
-pub const FAMILIES: [Family; 15] = [
-    family("general", 66_000, Size::Tiny, general),
+pub const FAMILIES: [Family; 20] = [
+    family("general", 58_000, Size::Tiny, general),
     family("scalars and texts", 10_000, Size::Tiny, scalars),
     family("chains of structures", 5_000, Size::Tiny, chain::chain),
     family("levels of the sheet", 800, Size::Small, chain::levels),
-    family("damaged sheet", 7_000, Size::Tiny, damaged_sheet),
-    family("damaged schema", 8_000, Size::Tiny, damaged_schema),
+    family("damaged sheet", 5_000, Size::Tiny, damaged_sheet),
+    family("edges of rows", 6_000, Size::Tiny, edges::row_edges),
+    family("damaged schema", 5_000, Size::Tiny, damaged_schema),
+    family("edges of schemas", 5_000, Size::Tiny, edges::schema_edges),
+    family("edges of sizes", 2_000, Size::Tiny, edges::size_edges),
     family("noise", 500, Size::Tiny, noise),
     family("long runs", 1_000, Size::Small, heavy::long_runs),
-    family("many remarks", 150, Size::Full, heavy::many_remarks),
     family("some remarks", 500, Size::Small, heavy::some_remarks),
+    family("many remarks", 150, Size::Full, heavy::many_remarks),
+    family("wide structures", 200, Size::Full, edges::wide_structures),
     family("full blocks", 250, Size::Full, heavy::full_blocks),
-    family("many blocks", 20, Size::Full, heavy::many_blocks),
+    family("many blocks", 50, Size::Full, heavy::many_blocks),
+    family("full charge", 50, Size::Full, edges::full_charge),
     family("long texts", 200, Size::Full, heavy::long_texts),
     family("large sheets", 100, Size::Full, heavy::large_sheets),
-    family("long files", 1, Size::Full, heavy::long_files),
+    family("long files", 5, Size::Full, heavy::long_files),
 ];
 
 fn fits(family: &Family, size: Size) -> bool {

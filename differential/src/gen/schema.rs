@@ -1,4 +1,5 @@
 //! Random schemas whose members lead somewhere.
+use super::edges::LARGE;
 use super::plan::{Body, Def, Plan, Section};
 use super::text::WORDS;
 use crate::model::schema::{Member, PMAP, PSIN};
@@ -36,11 +37,6 @@ struct Maker<'r> {
 const SCALARS: [u8; 15] = [0, 1, 2, 3, 4, 5, 6, 7, 8, 9, 0x0A, 0x14, 0x15, 0x1E, 0x20];
 /// Names of raw blocks, of descriptors, and 0.
 const SPECIAL: [u32; 11] = [0, 1, 2, 4, 5, 6, 7, 12, 200, 0x100, 0xFFFF_FFFF];
-
-/// Sizes at which sums and products of 32 bits overflow, of a block and of the charge's cap.
-const LARGE: [u32; 10] = [
-    0xFFFF_FFFF, 0x8000_0000, 0xFFFF_FFF0, 0xFFFF_0001, 0x1_0000, 0x10_0000, 0x10_0001, 4_194_288, 4_194_304, 0x5555_5556,
-];
 
 fn scalar_size(ty: u8) -> u32 {
     match ty {
