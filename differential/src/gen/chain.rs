@@ -40,6 +40,7 @@ fn linked(links: &[Link], i: usize) -> Tree {
     let next = |i: usize| Tree::Struct(0x5000 + i as u32 + 1, fields(links, i + 1));
     match links[i] {
         Inline | Pointer => next(i),
+        Run if i + 1 == links.len() => Tree::Array(vec![next(i), next(i)]),
         Run | PointerRun | Embedded => Tree::Array(vec![next(i)]),
         Map => {
             let value = if i + 1 < links.len() { linked(links, i + 1) } else { NULL_LEAF };
@@ -117,9 +118,13 @@ pub fn chain(rng: &mut Rng, size: Size) -> (Vec<u8>, Vec<u8>) {
         2 => &[Inline, Pointer, Map],
         _ => &[Inline, Inline, Pointer, Run, PointerRun, Embedded, Map],
     };
-    let links: Vec<Link> = (0..n).map(|_| *rng.pick(kinds)).collect();
+    let mut links: Vec<Link> = (0..n).map(|_| *rng.pick(kinds)).collect();
     // The last structure may be too large for the charge: 9 against 8.
-    let last_size = rng.chance(1, 10).then(|| *rng.pick(&super::edges::LARGE));
+    let mut last_size = rng.chance(1, 10).then(|| *rng.pick(&super::edges::LARGE));
+    if size != Size::Tiny && rng.chance(1, 20) {
+        links = [vec![Inline; 31], vec![Run]].concat();
+        last_size = Some(*rng.pick(&super::edges::LARGE));
+    }
     let (tree, plan) = chained(&links, last_size);
     (tree.sheet(), plan.bytes())
 }

@@ -15,6 +15,10 @@ pub fn row_edges(rng: &mut Rng, size: Size) -> (Vec<u8>, Vec<u8>) {
         return (odd_root(rng), schema);
     }
     let rows = u32_at(&sheet, 0) as usize;
+    if rng.chance(1, 3) {
+        number_row(rng, &mut sheet, rows);
+        return (sheet, schema);
+    }
     // A row of a kind that is picked first, so that rare kinds get their turn.
     let kind = rng.below(22) as u8;
     let same: Vec<usize> = (0..rows).filter(|r| sheet[4 + 24 * r] == kind).collect();
@@ -33,6 +37,21 @@ fn odd_root(rng: &mut Rng) -> Vec<u8> {
         _ => Tree::Leaf(rng.below(19) as u8, [0; 4]),
     }
     .sheet()
+}
+
+/// A row without children or text becomes a number at an edge of its width.
+fn number_row(rng: &mut Rng, s: &mut [u8], rows: usize) {
+    let leaves: Vec<usize> = (1..rows).map(|r| 4 + 24 * r).filter(|at| s[*at] <= BYTES && s[*at] != STR).collect();
+    if leaves.is_empty() {
+        return;
+    }
+    let at = *rng.pick(&leaves);
+    let wide = *rng.pick(&[(BOOL, 1), (I8, 7), (U8, 8), (I16, 15), (U16, 16)]);
+    let edge = 1u32 << wide.1;
+    s[at] = wide.0;
+    s[at + 8..at + 24].fill(0);
+    let x = *rng.pick(&[edge - 1, edge, 0u32.wrapping_sub(edge), 0u32.wrapping_sub(edge + 1), 2 * edge - 1, u32::MAX]);
+    put_u32(s, at + 8, x);
 }
 
 fn edit_row(rng: &mut Rng, s: &mut [u8], at: usize) {
@@ -176,7 +195,7 @@ pub fn wide_structures(rng: &mut Rng, _size: Size) -> (Vec<u8>, Vec<u8>) {
 /// A charge of 4,194,304, a little less or more.
 pub fn full_charge(rng: &mut Rng, _size: Size) -> (Vec<u8>, Vec<u8>) {
     let (text, parts) = (rng.below(30), rng.range(1, 3));
-    let mut left = 4_194_304 + rng.below(5) as u32 - 2;
+    let mut left = 4_194_304 + rng.below(3) as u32 - 1;
     let mut root = Vec::new();
     let mut fields = Vec::new();
     let mut defs = Vec::new();

@@ -1,6 +1,6 @@
 //! Lengths of the lent buffers: comfortable, exact, one unit short.
 use super::Size;
-use crate::model::{Limits, Outcome, MAX_CHARGE, MIN_WORK};
+use crate::model::{Limits, Outcome, MAX_CHARGE, MAX_FILE, MIN_WORK};
 use crate::rng::Rng;
 
 /// The work area whose cap is `cap`.
@@ -17,6 +17,14 @@ pub fn limits(rng: &mut Rng, generous: &Outcome, size: Size) -> Limits {
     if generous.code() == 9 && size == Size::Full && rng.chance(1, 2) {
         // More work than the cap can use.
         return Limits { work: work_for(entries, MAX_CHARGE) + slack(rng, 40), out: 1_000, records: remarks + 4 };
+    }
+    if generous.code() == 13 {
+        // Output enough for any file.
+        return Limits { work: work_for(entries, charge), out: MAX_FILE + 1 + slack(rng, 1_000), records: remarks };
+    }
+    if generous.code() == 10 && rng.chance(1, 3) {
+        // One unit short of what was charged before 10.
+        return Limits { work: work_for(entries, charge) - 1, out: 1_000, records: remarks };
     }
     let mut l = Limits {
         work: work_for(entries, charge) + slack(rng, 4_000),
