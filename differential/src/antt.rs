@@ -1,5 +1,6 @@
 //! Cases as theorems that are closed by evaluation, for the crate `cases`.
 use crate::commands::{case_of, file_of};
+use crate::compare;
 use crate::gen::limits::work_for;
 use crate::gen::{Case, Size};
 use crate::model::reader::{self, Reading};
@@ -7,6 +8,7 @@ use crate::model::schema::Schema;
 use crate::model::state::Remark;
 use crate::model::{build, Outcome, Pack, GENEROUS};
 use crate::select::{choose, Choice, Shown};
+use crate::stats::Stats;
 use std::fmt::Write;
 use std::path::Path;
 use std::{fs, io};
@@ -141,6 +143,7 @@ fn choose_laws(seed: u64, count: usize) -> Vec<String> {
         let mut list = generous.hits.features();
         list.push(if again.remarks.len() > pack.remarks.len() { MORE } else { SAME });
         if pack.file.len() <= FILE && shown.take(&list) {
+            compare::check(&case, &generous, &mut None, &mut Stats::new()).unwrap_or_else(|e| panic!("case {n}: {e}"));
             out.push(laws(out.len(), &case, pack, again));
         }
     }
@@ -160,6 +163,7 @@ fn choose_reads(seed: u64, count: usize) -> Vec<String> {
         if file.len() > FILE || codes[code] >= if code == 0 { good } else { share } || (code == 0 && file.len() < 60) {
             continue;
         }
+        compare::read_file(&file, &mut None, &mut Stats::new()).unwrap_or_else(|e| panic!("file {n}: {e}")).ok();
         codes[code] += 1;
         out.push(read(out.len(), &file));
     }
@@ -196,5 +200,5 @@ pub fn cases(seed: u64, builds: usize, laws: usize, reads: usize, dir: &str) -> 
     println!("{} of demand 3, {} files for the reader", laws.len(), reads.len());
     fs::write(dir.join("Texts.antt"), crate::antt_texts::texts(seed + 3))?;
     let list: String = modules.iter().map(|m| format!("pub mod {m}\n")).collect();
-    fs::write(dir.join("Lib.antt"), format!("-- Worked cases, closed by evaluation. Made, Laws, Read and Texts are written by differential/run record cases.\n{list}"))
+    fs::write(dir.join("Lib.antt"), format!("-- Worked cases, closed by evaluation. Made, Laws, Read and Texts are written by\n-- `differential/run record cases {seed} crates/cases/specs`, then `rt fmt`.\n{list}"))
 }

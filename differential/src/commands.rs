@@ -92,7 +92,7 @@ fn command(o: &Options) -> Result<i32, String> {
         ["try", sheet, schema, ref rest @ ..] => try_case(sheet, schema, rest),
         ["read", file] => try_file(file),
         ["record", "vectors", seed, count, dir] => record::vectors(number(seed)?, number(count)? as usize, dir).map_err(io).map(|_| 0),
-        ["record", "cases", seed, dir] => antt::cases(number(seed)?, 240, 60, 80, dir).map_err(io).map(|_| 0),
+        ["record", "cases", seed, dir] => antt::cases(number(seed)?, 320, 60, 80, dir).map_err(io).map(|_| 0),
         ["record", "cases", seed, dir, builds, laws, reads] => {
             let [b, l, r] = [builds, laws, reads].map(|w| number(w).unwrap_or(0) as usize);
             antt::cases(number(seed)?, b, l, r, dir).map_err(io).map(|_| 0)

@@ -1,9 +1,11 @@
 //! Choosing cases that show something new.
 use crate::commands::case_of;
+use crate::compare;
 use crate::gen::limits::work_for;
 use crate::gen::{Case, Size};
 use crate::model::schema::Schema;
 use crate::model::{build, Outcome};
+use crate::stats::Stats;
 use std::collections::HashMap;
 
 /// How often each thing was shown.
@@ -102,6 +104,8 @@ pub fn choose(choice: &Choice, keep: impl Fn(&Case, &Outcome) -> bool) -> Vec<(C
         } else if !shown.take(&list) {
             continue;
         }
+        // What is recorded is held against the reference first.
+        compare::check(&case, &generous, &mut None, &mut Stats::new()).unwrap_or_else(|e| panic!("case {n}: {e}"));
         out.push((case, limited));
     }
     out
