@@ -4,6 +4,7 @@ use crate::gen::Case;
 use crate::model::reader::FileBlock;
 use crate::model::schema::{Enumeration, Member as ModelMember, Structure};
 use crate::model::state::Remark;
+use std::sync::OnceLock;
 
 #[repr(C)]
 struct Outcome {
@@ -66,9 +67,10 @@ extern "C" {
     fn sandvurek_entry(file: *const u8, length: usize, at: usize, index: u32) -> Entry;
 }
 
-/// Bytes that stand in a lent buffer before a call; never zero.
-fn noise(i: usize) -> u8 {
-    (i as u8).wrapping_mul(37) | 1
+/// Bytes that stand in lent buffers before a call; never zero.
+fn noise() -> &'static [u8] {
+    static NOISE: OnceLock<Vec<u8>> = OnceLock::new();
+    NOISE.get_or_init(|| (0..20 << 20).map(|i: u32| (i as u8).wrapping_mul(37) | 1).collect())
 }
 
 /// Bytes in front of a lent buffer and behind it, which no call may touch.
@@ -79,7 +81,7 @@ struct Lent(Vec<u8>);
 
 impl Lent {
     fn new(n: usize) -> Lent {
-        Lent((0..n + 2 * GUARD).map(noise).collect())
+        Lent(noise()[..n + 2 * GUARD].to_vec())
     }
 
     fn inner(&self) -> &[u8] {
@@ -91,7 +93,7 @@ impl Lent {
     }
 
     fn is_noise(&self, from: usize, to: usize) -> bool {
-        self.0[from..to].iter().zip(from..).all(|(b, i)| *b == noise(i))
+        self.0[from..to] == noise()[from..to]
     }
 
     fn guarded(&self) -> bool {
