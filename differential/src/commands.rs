@@ -109,13 +109,21 @@ fn command(o: &Options) -> Result<i32, String> {
     }
 }
 
+/// The charge of small cases: their work areas stay below 1 MB.
+const SMALL_CHARGE: u64 = 150_000;
+
 /// Case `number` of a seed, with the model's answer for generous limits and its family.
 pub fn case_of(seed: u64, number: u64, size: Size) -> (Case, Outcome, usize) {
     let mut rng = Rng::of(seed, number);
-    let (family, sheet, schema) = gen::inputs(&mut rng, size);
-    let generous = build(&sheet, &schema, &GENEROUS);
-    let limits = gen::limits::limits(&mut rng, &generous, size);
-    (Case { sheet, schema, limits }, generous, family)
+    loop {
+        let (family, sheet, schema) = gen::inputs(&mut rng, size);
+        let generous = build(&sheet, &schema, &GENEROUS);
+        if size != Size::Full && generous.charge > SMALL_CHARGE {
+            continue;
+        }
+        let limits = gen::limits::limits(&mut rng, &generous, size);
+        return (Case { sheet, schema, limits }, generous, family);
+    }
 }
 
 /// File `number` of a seed.

@@ -21,7 +21,7 @@ fn number(from: &mut impl Read) -> io::Result<u64> {
 }
 
 fn bytes(from: &mut impl Read, n: u64) -> io::Result<Vec<u8>> {
-    if n > 1 << 32 {
+    if n > 1 << 26 {
         return Err(io::Error::new(ErrorKind::InvalidData, format!("a length of {n}")));
     }
     let mut b = vec![0; n as usize];
@@ -64,7 +64,7 @@ pub fn put_reply(out: &mut impl Write, r: &Reply) -> io::Result<()> {
 pub fn reply(from: &mut impl Read) -> io::Result<Reply> {
     let (code, length, count, flags) = (number(from)?, number(from)?, number(from)?, number(from)?);
     let file = bytes(from, length)?;
-    let rows = bytes(from, 16 * count.min(1 << 30))?;
+    let rows = bytes(from, count.saturating_mul(16))?;
     let n = |r: &[u8], k: usize| u32::from_le_bytes(r[4 * k..4 * k + 4].try_into().unwrap());
     let remarks = rows.chunks(16).map(|r| Remark { kind: n(r, 0), structure: n(r, 1), member: n(r, 2), detail: n(r, 3) }).collect();
     Ok(Reply { code, flags, file, remarks })
