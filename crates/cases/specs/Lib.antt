@@ -1,4 +1,5 @@
--- Worked cases, closed by evaluation.
+-- Worked cases, closed by evaluation. Made, Laws, Read and Texts are written by
+-- `differential/run record cases 4242 crates/cases/specs`, then `rt fmt`.
 pub mod Check
 pub mod Ten
 pub mod Records
@@ -19,6 +20,7 @@ pub mod Made12
 pub mod Made13
 pub mod Made14
 pub mod Made15
+pub mod Made16
 pub mod Laws00
 pub mod Laws01
 pub mod Laws02

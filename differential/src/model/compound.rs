@@ -1,0 +1,169 @@
+//! Members that lead to further structures: structures, arrays, maps.
+use super::schema::Member;
+use super::sheet::{Row, ARRAY, MAP, NULL, STR, STRUCT};
+use super::text;
+use super::write::{At, Writer};
+use crate::branch::{Case, Place, Way};
+use crate::bytes::{put_u16, put_u32};
+use std::ops::Range;
+
+impl<'a> Writer<'a> {
+    pub(super) fn structure_member(&mut self, at: At<'a>, buf: &mut [u8]) -> Result<(), u32> {
+        let (m, off) = (at.member, at.member.offset as usize);
+        let case = if m.subtype == 0 { Case::Inline } else { Case::Pointed };
+        let row = self.seen(at, case, Place::Struct);
+        let empty_text = row.kind == STR && row.b == 0;
+        if !(row.kind == STRUCT || row.kind == NULL || empty_text) {
+            return self.wrong(at, case);
+        }
+        if at.value.is_some() && row.kind != STRUCT {
+            self.state.hits.hit(case, if empty_text { Way::Empty } else { Way::Null });
+        }
+        if m.subtype == 0 {
+            let Some(inner) = self.schema.structure(m.reference) else {
+                self.state.hits.hit(case, Way::NoDef);
+                return self.remark(at, 4, m.reference);
+            };
+            if !self.fits(at, case, inner.size as usize)? {
+                return Ok(());
+            }
+            let bytes = self.structure(inner, &self.fields_of(&row), at.depth + 1)?;
+            self.state.hits.hit(case, Way::Written);
+            buf[off..off + bytes.len()].copy_from_slice(&bytes);
+            return Ok(());
+        }
+        if !self.fits(at, case, 8)? || row.kind != STRUCT {
+            return Ok(());
+        }
+        if let Some(pointer) = self.pointed(at, case, m.reference, &row)? {
+            put_u32(buf, off, pointer);
+        }
+        Ok(())
+    }
+
+    /// A structure by pointer: the row's own type where the schema has it, else the reference; or remark 4.
+    pub fn pointed(&mut self, at: At<'a>, case: Case, reference: u32, row: &Row) -> Result<Option<u32>, u32> {
+        let own = self.schema.structure(row.a).is_some();
+        let name = if own { row.a } else { reference };
+        let Some(def) = self.schema.structure(name) else {
+            self.state.hits.hit(case, Way::NoDef);
+            self.remark(at, 4, name)?;
+            return Ok(None);
+        };
+        self.state.hits.hit(case, if own { Way::OwnType } else { Way::ByReference });
+        let bytes = self.structure(def, &self.fields_of(row), at.depth + 1)?;
+        self.state.lay(def.name, bytes).map(Some)
+    }
+
+    /// The element's descriptor: 16-bit index, else 12-bit.
+    fn array_info(&mut self, at: At<'a>) -> Option<&'a Member> {
+        let members = &at.def.members;
+        let (wide, narrow) = ((at.member.reference & 0xFFFF) as usize, (at.member.reference & 0xFFF) as usize);
+        if wide < members.len() {
+            self.state.hits.hit(Case::Array, Way::Index16);
+            return Some(&members[wide]);
+        }
+        if narrow < members.len() {
+            self.state.hits.hit(Case::Array, Way::Index12);
+        }
+        members.get(narrow)
+    }
+
+    pub(super) fn array(&mut self, at: At<'a>, buf: &mut [u8]) -> Result<(), u32> {
+        let (m, off) = (at.member, at.member.offset as usize);
+        let Some(element) = self.array_info(at) else {
+            self.state.hits.hit(Case::Array, Way::Remark);
+            return self.remark(at, 5, 0);
+        };
+        let row = self.seen(at, Case::Array, Place::Array);
+        let blank = row.kind == STR && text::trim(self.sheet.text(&row)).is_empty();
+        if !(row.kind == ARRAY || row.kind == NULL || blank) {
+            return self.wrong(at, Case::Array);
+        }
+        if at.value.is_some() && row.kind != ARRAY {
+            self.state.hits.hit(Case::Array, if blank { Way::Blank } else { Way::Null });
+        }
+        let items = self.sheet.children(&row);
+        let by_pointer = m.subtype == 0 || (m.subtype == 4 && element.subtype == 3);
+        if !by_pointer {
+            return self.embedded(at, element, items, buf);
+        }
+        let case = Case::ArrayPointed;
+        if !self.fits(at, case, 16)? {
+            return Ok(());
+        }
+        self.state.hits.hit(case, if m.subtype == 0 { Way::Sub0 } else { Way::Sub4 });
+        let n = items.len();
+        if n == 0 {
+            self.state.hits.hit(case, Way::Empty);
+            return Ok(());
+        }
+        let Some((block, run)) = self.element_run(at, element, items)? else {
+            self.state.hits.hit(case, Way::Dropped);
+            return Ok(());
+        };
+        self.state.hits.hit(case, Way::Written);
+        let pointer = self.state.lay(block, run)?;
+        put_u32(buf, off, pointer);
+        put_u16(buf, off + 8, n as u16);
+        put_u16(buf, off + 10, n as u16);
+        Ok(())
+    }
+
+    /// The run first, then whether it fits; items past the count are dropped before.
+    fn embedded(&mut self, at: At<'a>, element: &'a Member, items: Range<usize>, buf: &mut [u8]) -> Result<(), u32> {
+        let case = Case::ArrayEmbedded;
+        let off = at.member.offset as usize;
+        let kept = items.len().min((at.member.reference >> 16) as usize);
+        if kept < items.len() {
+            self.state.hits.hit(case, Way::Cut);
+        }
+        let Some((_, run)) = self.element_run(at, element, items.start..items.start + kept)? else {
+            self.state.hits.hit(case, Way::Dropped);
+            return Ok(());
+        };
+        if !self.fits(at, case, run.len())? {
+            return Ok(());
+        }
+        self.state.hits.hit(case, if run.is_empty() { Way::Empty } else { Way::Written });
+        buf[off..off + run.len()].copy_from_slice(&run);
+        Ok(())
+    }
+
+    pub(super) fn map(&mut self, at: At<'a>, buf: &mut [u8]) -> Result<(), u32> {
+        let (m, off) = (at.member, at.member.offset as usize);
+        if m.subtype != 1 {
+            self.state.hits.hit(Case::MapOther, Way::Remark);
+            return self.remark(at, 6, m.subtype as u32);
+        }
+        if !self.fits(at, Case::Map, 24)? {
+            return Ok(());
+        }
+        let row = self.seen(at, Case::Map, Place::Map);
+        if row.kind != MAP && row.kind != NULL {
+            return self.wrong(at, Case::Map);
+        }
+        if at.value.is_some() && row.kind == NULL {
+            self.state.hits.hit(Case::Map, Way::Null);
+        }
+        put_u32(buf, off, 0x0100_0000);
+        let pairs = self.sheet.children(&row);
+        if pairs.is_empty() {
+            self.state.hits.hit(Case::Map, Way::Empty);
+            return Ok(());
+        }
+        let name = self.reference_at(at, Case::Map, (m.reference & 0xFFFF) as usize);
+        let Some(pair) = self.schema.structure(name) else {
+            self.state.hits.hit(Case::Map, Way::NoDef);
+            return self.remark(at, 7, name);
+        };
+        let n = pairs.len() / 2;
+        let run = self.pair_run(at, pair, pairs)?;
+        self.state.hits.hit(Case::Map, Way::Written);
+        let pointer = self.state.lay(name, run)?;
+        put_u32(buf, off + 8, pointer);
+        put_u16(buf, off + 16, n as u16);
+        put_u16(buf, off + 18, n as u16);
+        Ok(())
+    }
+}

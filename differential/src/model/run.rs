@@ -1,0 +1,224 @@
+//! Runs: the elements of an array, the pairs of a map.
+use super::coerce::Fit;
+use super::schema::{Member, Structure};
+use super::sheet::{NULL, STRUCT};
+use super::write::{scalar_case, At, Fields, Writer, ARRAYINFO};
+use crate::branch::{Case, Place, Way};
+use crate::bytes::put_u32;
+use std::ops::Range;
+
+/// The block and the bytes of one element of a scalar type.
+fn scalar_run(ty: u8) -> (u32, usize) {
+    match ty {
+        0x00..=0x02 => (2, 1),
+        0x03 | 0x04 | 0x1E => (4, 2),
+        0x05 => (5, 4),
+        0x06 => (6, 4),
+        0x20 => (6, 8),
+        0x07 => (7, 4),
+        0x08 => (1, 8),
+        _ => (1, 16),
+    }
+}
+
+/// The block and the bytes of a run; none where it is dropped.
+pub type Run = Option<(u32, Vec<u8>)>;
+
+impl<'a> Writer<'a> {
+    /// A run's cost, charged before its first byte.
+    fn begin(&mut self, case: Case, stride: usize, n: usize) -> Result<Vec<u8>, u32> {
+        self.state.pay(16 + stride as u64 * n as u64)?;
+        if n == 0 {
+            self.state.hits.hit(case, Way::Empty);
+        }
+        Ok(Vec::new())
+    }
+
+    fn stop(&mut self, at: At, case: Case, way: Way, kind: u32, detail: u32) -> Result<Run, u32> {
+        self.state.hits.hit(case, way);
+        self.remark(at, kind, detail)?;
+        Ok(None)
+    }
+
+    fn drop_run(&mut self, case: Case) -> Result<Run, u32> {
+        self.state.hits.hit(case, Way::Dropped);
+        Ok(None)
+    }
+
+    pub fn element_run(&mut self, at: At<'a>, element: &'a Member, items: Range<usize>) -> Result<Run, u32> {
+        if scalar_case(element.ty).is_some() {
+            return self.scalars(element.ty, items);
+        }
+        match element.ty {
+            0x0C if element.subtype == 3 => self.pointers(at, element.reference, items),
+            0x0C => self.structures(at, element.reference, items),
+            0x0B => self.strings(at, element, items),
+            0x0E => self.enums(element.reference, items),
+            other => self.stop(at, Case::ElOther, Way::Remark, 12, other as u32),
+        }
+    }
+
+    fn scalars(&mut self, ty: u8, items: Range<usize>) -> Result<Run, u32> {
+        let (_, case) = scalar_case(ty).unwrap();
+        let (block, stride) = scalar_run(ty);
+        let mut run = self.begin(case, stride, items.len())?;
+        for r in items {
+            match self.scalar_bytes(ty, &self.sheet.rows[r]) {
+                Fit::Fits(b) => run.extend_from_slice(&b[..stride]),
+                Fit::Unfit => return self.drop_run(case),
+                Fit::FloatText => {
+                    self.state.hits.hit(case, Way::FloatText);
+                    return Err(11);
+                }
+            }
+        }
+        self.state.hits.hit(case, Way::Written);
+        Ok(Some((block, run)))
+    }
+
+    /// Structures by pointer: what is no Struct is a zero slot.
+    fn pointers(&mut self, at: At<'a>, reference: u32, items: Range<usize>) -> Result<Run, u32> {
+        let case = Case::ElPointer;
+        let mut run = self.begin(case, 8, items.len())?;
+        for r in items {
+            let row = self.sheet.rows[r];
+            self.state.hits.value(Place::Struct, row.kind);
+            let mut slot = [0; 8];
+            if row.kind == STRUCT {
+                if let Some(pointer) = self.pointed(at, case, reference, &row)? {
+                    put_u32(&mut slot, 0, pointer);
+                }
+            } else {
+                self.state.hits.hit(case, Way::NotStruct);
+            }
+            run.extend_from_slice(&slot);
+        }
+        Ok(Some((12, run)))
+    }
+
+    /// Structures in the run: what is neither Struct nor Null gives remark 9 and a default one.
+    fn structures(&mut self, at: At<'a>, reference: u32, items: Range<usize>) -> Result<Run, u32> {
+        let case = Case::ElStruct;
+        let Some(def) = self.schema.structure(reference) else {
+            return self.stop(at, case, Way::NoDef, 8, reference);
+        };
+        let mut run = self.begin(case, def.size as usize, items.len())?;
+        for r in items {
+            let row = self.sheet.rows[r];
+            self.state.hits.value(Place::Struct, row.kind);
+            match row.kind {
+                STRUCT => self.state.hits.hit(case, Way::Written),
+                NULL => self.state.hits.hit(case, Way::Null),
+                _ => {
+                    self.state.hits.hit(case, Way::NotStruct);
+                    self.remark(at, 9, 0)?;
+                }
+            }
+            let bytes = self.structure(def, &self.fields_of(&row), at.depth + 1)?;
+            run.extend_from_slice(&bytes);
+        }
+        Ok(Some((def.name, run)))
+    }
+
+    fn strings(&mut self, at: At<'a>, element: &Member, items: Range<usize>) -> Result<Run, u32> {
+        match element.subtype {
+            0 => self.fixed(at, (element.reference >> 16) as usize, items),
+            1 => self.texts(Case::ElString1, element.subtype, 12, 8, items),
+            2 => self.texts(Case::ElString2, element.subtype, 12, 8, items),
+            3 => self.texts(Case::ElString3, element.subtype, 200, 16, items),
+            7 => self.hashes(Case::ElString7, items),
+            8 => self.hashes(Case::ElString8, items),
+            other => self.stop(at, Case::ElStringOther, Way::Remark, 11, other as u32),
+        }
+    }
+
+    /// Texts by pointer: what is no text is an empty slot.
+    fn texts(&mut self, case: Case, subtype: u8, block: u32, stride: usize, items: Range<usize>) -> Result<Run, u32> {
+        let mut run = self.begin(case, stride, items.len())?;
+        let sheet = self.sheet;
+        for r in items {
+            let row = &sheet.rows[r];
+            self.state.hits.value(Place::Text, row.kind);
+            let t = sheet.str_of(row).unwrap_or(&[]);
+            self.state.hits.hit(case, if t.is_empty() { Way::Default } else { Way::Written });
+            let mut slot = vec![0; stride];
+            self.text_slot(subtype, t, &mut slot)?;
+            run.extend_from_slice(&slot);
+        }
+        Ok(Some((block, run)))
+    }
+
+    fn fixed(&mut self, at: At<'a>, stride: usize, items: Range<usize>) -> Result<Run, u32> {
+        let case = Case::ElString0;
+        if stride == 0 {
+            return self.stop(at, case, Way::Remark, 10, 0);
+        }
+        let mut run = self.begin(case, stride, items.len())?;
+        let sheet = self.sheet;
+        for r in items {
+            let row = &sheet.rows[r];
+            self.state.hits.value(Place::Text, row.kind);
+            let Some(t) = sheet.str_of(row) else { return self.drop_run(case) };
+            let n = t.len().min(stride - 1);
+            if n < t.len() {
+                self.state.hits.hit(case, Way::Cut);
+            }
+            run.extend_from_slice(&t[..n]);
+            run.resize(run.len() + stride - n, 0);
+        }
+        self.state.hits.hit(case, Way::Written);
+        Ok(Some((1, run)))
+    }
+
+    fn hashes(&mut self, case: Case, items: Range<usize>) -> Result<Run, u32> {
+        let mut run = self.begin(case, 4, items.len())?;
+        for r in items {
+            let row = &self.sheet.rows[r];
+            self.state.hits.value(Place::Hash, row.kind);
+            let Some(h) = self.sheet.hash_of(row) else { return self.drop_run(case) };
+            run.extend_from_slice(&h.to_be_bytes());
+        }
+        self.state.hits.hit(case, Way::Written);
+        Ok(Some((6, run)))
+    }
+
+    /// An enum's run has begun, so it is used.
+    fn enums(&mut self, name: u32, items: Range<usize>) -> Result<Run, u32> {
+        let case = Case::ElEnum;
+        let mut run = self.begin(case, 4, items.len())?;
+        let known = self.use_enum(name);
+        self.state.hits.hit(case, if known { Way::Known } else { Way::Unknown });
+        let entries = self.entries(name);
+        for r in items {
+            let row = &self.sheet.rows[r];
+            self.state.hits.value(Place::Enum, row.kind);
+            match self.sheet.enum_value(row, entries) {
+                Fit::Fits(x) => run.extend_from_slice(&x.to_be_bytes()),
+                Fit::Unfit => return self.drop_run(case),
+                Fit::FloatText => {
+                    self.state.hits.hit(case, Way::FloatText);
+                    return Err(11);
+                }
+            }
+        }
+        self.state.hits.hit(case, Way::Written);
+        Ok(Some((5, run)))
+    }
+
+    /// Key and value stand under the names of the definition's first two members.
+    pub fn pair_run(&mut self, at: At<'a>, pair: &'a Structure, rows: Range<usize>) -> Result<Vec<u8>, u32> {
+        let names: Vec<u32> = pair.members.iter().map(|m| m.name).filter(|n| *n != ARRAYINFO).take(2).collect();
+        if names.len() < 2 {
+            self.state.hits.hit(Case::Map, Way::OneMember);
+        } else if names[0] == names[1] {
+            self.state.hits.hit(Case::Map, Way::SameName);
+        }
+        let mut run = self.begin(Case::Map, pair.size as usize, rows.len() / 2)?;
+        for key in rows.step_by(2) {
+            let fields = Fields::Pair(names.iter().copied().zip([key, key + 1]).collect());
+            let bytes = self.structure(pair, &fields, at.depth + 1)?;
+            run.extend_from_slice(&bytes);
+        }
+        Ok(run)
+    }
+}
