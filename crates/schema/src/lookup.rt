@@ -1,0 +1,115 @@
+// Look-up by name: of the definitions of a kind and a name, the one that counts when building is the last.
+use numbers::words::left;
+use numbers::words::read_u8;
+use numbers::words::read_u32;
+use crate::cursor::Cursor;
+use crate::cursor::Step;
+use crate::cursor::is_named;
+ghost use mathlib.Core.Path.{_≡_};
+ghost use Prim.Native.Nat.{ℕ, _+_, _^_, _≤_, _<_};
+ghost use lib.ListN.{length, take, drop};
+ghost use Rattle.numbers.specs.Words.{readAt};
+ghost use Rattle.numbers.specs.Result.{ok, orElse, mapOption};
+ghost use Rattle.schema.specs.Defs.{Schema, winning};
+ghost use Rattle.schema.specs.Psch.{schemaOf};
+ghost use Rattle.schema.specs.Index.{entryCount, leadsTo, placesIn, sectionPlaces, lastOf, lastPlace};
+ghost use Rattle.schema.specs.Answers.{foundIs, structFound, enumFound};
+
+// A place in the file, or none.
+pub enum Found {
+    At(usize),
+    Nothing,
+}
+
+// How many entries of the index of a PSCH section lie in it.
+pub fn entry_count(p: &[u8]) -> usize
+    ensures { λ r. ⌜ r ≡ entryCount (now (p .entry)) ⌝ }
+{
+    let n = read_u32(p, 8) as usize;
+    let room = left(p, 12) / 8;
+    if n < room { n } else { room }
+}
+
+// Whether the index entry at `at` has the name and leads to a definition of the kind (0 a structure, 1 an enum).
+pub fn leads_to(p: &[u8], at: usize, kind: u8, name: u32) -> bool
+    requires { ⌜ at + 8 ≤ length (now p) ⌝ }
+    ensures { λ r. ⌜ r ≡ leadsTo (now (p .entry)) kind name at ⌝ }
+{
+    if read_u32(p, at) != name {
+        return false;
+    }
+    let place = read_u32(p, at + 4) as usize;
+    (place < p.len()) & (read_u8(p, place) == kind)
+}
+
+// The last definition of a kind and a name in a PSCH section that starts at `from` of the file.
+fn last_in(p: &[u8], from: usize, kind: u8, name: u32) -> Found
+    requires { ⌜ from < 2 ^ 63 ⌝ }
+    ensures { λ r. ⌜ foundIs r ≡ mapOption (from +_) (lastOf (placesIn (now (p .entry)) kind name)) ⌝ }
+{
+    let mut i = entry_count(p);
+    while 0 < i {
+        i -= 1;
+        let at = 12 + 8 * i;
+        if leads_to(p, at, kind, name) {
+            let place = read_u32(p, at + 4) as usize;
+            return Found::At(from + place);
+        }
+    }
+    Found::Nothing
+}
+
+// The same of a section, or what was found before it.
+fn last_of(file: &[u8], place: usize, len: usize, kind: u8, name: u32, found: Found) -> Found
+    requires { ⌜ place + len ≤ length (now file) ⌝ }
+    ensures { λ r. ⌜ foundIs r ≡ orElse (mapOption (place +_) (lastOf (sectionPlaces (readAt 4 (now (file .entry)) place) (take len (drop place (now (file .entry)))) kind name))) (foundIs found) ⌝ }
+{
+    if !is_named(file, place, b"PSCH") {
+        return found;
+    }
+    let stop = place + len;
+    let f = last_in(&file[place..stop], place, kind, name);
+    match f {
+        Found::At(at) => Found::At(at),
+        Found::Nothing => found,
+    }
+}
+
+// The last definition of a kind and a name in a file.
+fn last(file: &[u8], kind: u8, name: u32) -> Found
+    ensures { λ r. ⌜ foundIs r ≡ lastPlace (now (file .entry)) kind name ⌝ }
+{
+    let mut c = Cursor::new();
+    let mut found = Found::Nothing;
+    loop {
+        let s = c.step(file);
+        match s {
+            Step::End => {
+                return found;
+            }
+            Step::Broken => {
+                return found;
+            }
+            Step::Section { place, len, next } => {
+                found = last_of(file, place, len, kind, name, found);
+                c = next;
+            }
+        }
+    }
+}
+
+// The place in the file of the structure that a name stands for when building.
+pub fn find_structure(file: &[u8], name: u32) -> Found
+    ensures { λ r. ⌜ foundIs r ≡ lastPlace (now (file .entry)) 0 name ⌝ }
+    ensures { λ r. ⌜ ((S : Schema) → schemaOf (now (file .entry)) ≡ ok S → winning S .struct name ≡ structFound (now (file .entry)) name r) ⌝ }
+{
+    last(file, 0, name)
+}
+
+// The place in the file of the enum that a name stands for when building.
+pub fn find_enum(file: &[u8], name: u32) -> Found
+    ensures { λ r. ⌜ foundIs r ≡ lastPlace (now (file .entry)) 1 name ⌝ }
+    ensures { λ r. ⌜ ((S : Schema) → schemaOf (now (file .entry)) ≡ ok S → winning S .enum name ≡ enumFound (now (file .entry)) name r) ⌝ }
+{
+    last(file, 1, name)
+}
