@@ -1,9 +1,9 @@
 // The blocks of a file, by number.
+use numbers::words::is_name;
 use numbers::words::read_u16;
 use numbers::words::read_u32;
 use schema::cursor::Cursor;
 use schema::cursor::Step;
-use schema::cursor::is_named;
 ghost use mathlib.Core.Path.{_≡_};
 ghost use mathlib.Core.Option.{some};
 ghost use Prim.Native.Nat.{_+_, _≤_};
@@ -101,7 +101,7 @@ fn span_of(file: &[u8], place: usize, len: usize) -> Span
     requires { ⌜ place + len ≤ length (now file) ⌝ }
     ensures { λ r. ⌜ Spans (now (file .entry)) (sectionBlocks (readAt 4 (now (file .entry)) place) (take len (drop place (now (file .entry))))) r ⌝ }
 {
-    if !is_named(file, place, b"PMAP") {
+    if !is_name(file, place, b"PMAP") {
         return Span { start: 0, count: 0 };
     }
     let stop = place + len;

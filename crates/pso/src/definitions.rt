@@ -1,8 +1,8 @@
 // The definitions of a file, by name: the first of a name counts.
+use numbers::words::is_name;
 use numbers::words::read_u32;
 use schema::cursor::Cursor;
 use schema::cursor::Step;
-use schema::cursor::is_named;
 use schema::lookup::Found;
 use schema::lookup::entry_count;
 use schema::lookup::leads_to;
@@ -42,7 +42,7 @@ fn first_of(file: &[u8], place: usize, len: usize, kind: u8, name: u32) -> Found
     requires { ⌜ place + len ≤ length (now file) ⌝ }
     ensures { λ r. ⌜ foundIs r ≡ mapOption (place +_) (firstOf (sectionPlaces (readAt 4 (now (file .entry)) place) (take len (drop place (now (file .entry)))) kind name)) ⌝ }
 {
-    if !is_named(file, place, b"PSCH") {
+    if !is_name(file, place, b"PSCH") {
         return Found::Nothing;
     }
     let stop = place + len;

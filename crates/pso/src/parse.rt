@@ -1,9 +1,9 @@
 // `parse_pso`: the sections in file order, and what they leave.
+use numbers::words::is_name;
 use schema::check::Checked;
 use schema::check::check_psch;
 use schema::cursor::Cursor;
 use schema::cursor::Step;
-use schema::cursor::is_named;
 use crate::blocks::Rows;
 use crate::blocks::read_rows;
 ghost use mathlib.Core.Path.{_≡_};
@@ -75,7 +75,7 @@ fn see(file: &[u8], place: usize, len: usize, s: State) -> Saw
 {
     let root = s.root;
     let blocks = s.blocks;
-    if is_named(file, place, b"PSIN") {
+    if is_name(file, place, b"PSIN") {
         return Saw::Next(State {
             body: Part::At {
                 place: place,
@@ -86,10 +86,10 @@ fn see(file: &[u8], place: usize, len: usize, s: State) -> Saw
         });
     }
     let stop = place + len;
-    if is_named(file, place, b"PMAP") {
+    if is_name(file, place, b"PMAP") {
         return with_map(read_rows(&file[place..stop]), s);
     }
-    if is_named(file, place, b"PSCH") {
+    if is_name(file, place, b"PSCH") {
         return with_defs(check_psch(&file[place..stop]), s);
     }
     Saw::Next(s)
@@ -133,7 +133,7 @@ pub fn parse_pso(file: &[u8]) -> Parsed
     if file.len() < 4 {
         return Parsed::Refused(15);
     }
-    if !is_named(file, 0, b"PSIN") {
+    if !is_name(file, 0, b"PSIN") {
         return Parsed::Refused(15);
     }
     let mut c = Cursor::new();

@@ -1,11 +1,11 @@
 // The definitions of a file's PSCH sections are whole: refusals 4, 5 and 6, and the number of index entries.
+use numbers::words::is_name;
 use numbers::words::read_u8;
 use numbers::words::read_u16;
 use numbers::words::read_u24;
 use numbers::words::read_u32;
 use crate::cursor::Cursor;
 use crate::cursor::Step;
-use crate::cursor::is_named;
 ghost use mathlib.Core.Path.{_≡_};
 ghost use Prim.Native.Nat.{ℕ, _+_, _^_, _≤_, _<_};
 ghost use lib.ListN.{length, take, drop};
@@ -91,7 +91,7 @@ fn check_section(file: &[u8], place: usize, len: usize) -> Checked
     requires { ⌜ place + len ≤ length (now file) ⌝ }
     ensures { λ r. ⌜ r ≡ checkedIs (mapResult length (sectionDefs (readAt 4 (now (file .entry)) place) (take len (drop place (now (file .entry)))))) ⌝ }
 {
-    if !is_named(file, place, b"PSCH") {
+    if !is_name(file, place, b"PSCH") {
         return Checked::Sound(0);
     }
     let stop = place + len;

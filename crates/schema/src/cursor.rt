@@ -2,8 +2,6 @@
 use numbers::words::left;
 use numbers::words::read_u32;
 ghost use mathlib.Core.Path.{_≡_};
-ghost use lib.Dec.{eqb};
-ghost use Rattle.numbers.specs.Words.{readAt};
 ghost use Rattle.schema.specs.Steps.{rest, followed, Reach};
 
 pub struct Cursor {
@@ -54,11 +52,4 @@ impl Cursor {
             next: Cursor { at: at + len },
         }
     }
-}
-
-// Whether the section at a place has the name, four bytes.
-pub fn is_named(file: &[u8], place: usize, name: &[u8]) -> bool
-    ensures { λ r. ⌜ r ≡ eqb (readAt 4 (now (file .entry)) place) (readAt 4 (now (name .entry)) 0) ⌝ }
-{
-    read_u32(file, place) == read_u32(name, 0)
 }

@@ -1,10 +1,10 @@
 // Look-up by name: of the definitions of a kind and a name, the one that counts when building is the last.
+use numbers::words::is_name;
 use numbers::words::left;
 use numbers::words::read_u8;
 use numbers::words::read_u32;
 use crate::cursor::Cursor;
 use crate::cursor::Step;
-use crate::cursor::is_named;
 ghost use mathlib.Core.Path.{_≡_};
 ghost use Prim.Native.Nat.{ℕ, _+_, _^_, _≤_, _<_};
 ghost use lib.ListN.{length, take, drop};
@@ -64,7 +64,7 @@ fn last_of(file: &[u8], place: usize, len: usize, kind: u8, name: u32, found: Fo
     requires { ⌜ place + len ≤ length (now file) ⌝ }
     ensures { λ r. ⌜ foundIs r ≡ orElse (mapOption (place +_) (lastOf (sectionPlaces (readAt 4 (now (file .entry)) place) (take len (drop place (now (file .entry)))) kind name))) (foundIs found) ⌝ }
 {
-    if !is_named(file, place, b"PSCH") {
+    if !is_name(file, place, b"PSCH") {
         return found;
     }
     let stop = place + len;

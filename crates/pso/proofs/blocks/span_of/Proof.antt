@@ -5,7 +5,6 @@ use lib.Dec.{eqb}
 use lib.ListN.{take, drop}
 use denote.Ref.{now}
 use borrow.Author.Tests.{not-true, not-false}
-use Rattle.schema.proofs.Walk.{pmap-bytes}
 use Rattle.pso.proofs.Numbered.{span-other, span-in, span-short, span-rows}
 use borrow.Author.Needs.{needs}
 use Rattle.pso.proofs.blocks.span_of.Statement.{statement}
@@ -13,21 +12,16 @@ use Rattle.pso.proofs.blocks.span_of.Tie as tie
 use Rattle.pso.proofs.blocks.span_of.Reads as reads
 use Rattle.pso.proofs.blocks.span_of.Lts as lts
 use Rattle.pso.proofs.blocks.read_rows.Reads as read-rows-reads
-use Rattle.schema.proofs.cursor.is_named.Reads as is-named-reads
-
--- src/blocks.rt:104:31
-slice-aggregate-is-named : tie.Need-slice-aggregate-is-named
-slice-aggregate-is-named c = search needs
 
 -- src/blocks.rt:104:9
-is-named-requires : tie.Need-is-named-requires
-is-named-requires c κs = search needs
+is-name-requires : tie.Need-is-name-requires
+is-name-requires c κs = search needs
 
 -- src/blocks.rt:105:9
 returns : tie.Need-returns
 returns c =
     let s = c .before .before .before .before in
-    span-other (now (s .args .file)) (s .args .place) (s .args .len) (s .pre) (c .before .is-named .result) (c .before .is-named .ensures ∙ ap (eqb _) pmap-bytes) (not-true _ (c .if1 .taken))
+    span-other (now (s .args .file)) (s .args .place) (s .args .len) (s .pre) (c .before .is-name .result) (c .before .is-name .ensures .number (omega arith)) (not-true _ (c .if1 .taken))
 
 -- src/blocks.rt:107:16
 add-stop : tie.Need-add-stop
@@ -58,11 +52,11 @@ enum-known-r : tie.Need-enum-known-r
 enum-known-r c = search needs
 
 -- src/blocks.rt:112:20
-add-t19 : tie.Need-add-t19
-add-t19 c =
+add-t18 : tie.Need-add-t18
+add-t18 c =
     let s = c .before .before .before .before .before .before .before .before .before in
     let g = c .before .r .given in
-    let i = span-in (now (s .args .file)) (s .args .place) (s .args .len) (s .pre) (c .before .before .before .before .before .before .is-named .result) (c .before .before .before .before .before .before .is-named .ensures ∙ ap (eqb _) pmap-bytes) (not-false _ (c .before .before .before .before .before .if1 .left)) _
+    let i = span-in (now (s .args .file)) (s .args .place) (s .args .len) (s .pre) (c .before .before .before .before .before .before .is-name .result) (c .before .before .before .before .before .before .is-name .ensures .number (omega arith)) (not-false _ (c .before .before .before .before .before .if1 .left)) _
       (ap (λ x. take x (drop (s .args .place) (now (s .args .file)))) (add-sub-cancel-left (s .args .place) (s .args .len))) (c .before .before .before .read-rows .result) (c .before .before .before .read-rows .ensures) (g .0 .0) (g .0 .1 .0) (g .0 .1 .1 .0) (g .1) in
     omega (arith, i, s .pre)
 
@@ -70,7 +64,7 @@ add-t19 c =
 returns-2 : tie.Need-returns-2
 returns-2 c =
     let s = c .before .before .before .before .before .before .before .before in
-    span-short (now (s .args .file)) (s .args .place) (s .args .len) (s .pre) (c .before .before .before .before .before .is-named .result) (c .before .before .before .before .before .is-named .ensures ∙ ap (eqb _) pmap-bytes) (not-false _ (c .before .before .before .before .if1 .left)) _
+    span-short (now (s .args .file)) (s .args .place) (s .args .len) (s .pre) (c .before .before .before .before .before .is-name .result) (c .before .before .before .before .before .is-name .ensures .number (omega arith)) (not-false _ (c .before .before .before .before .if1 .left)) _
     (ap (λ x. take x (drop (s .args .place) (now (s .args .file)))) (add-sub-cancel-left (s .args .place) (s .args .len))) (c .before .before .read-rows .result) (c .before .before .read-rows .ensures) (c .enum-told .given .1)
 
 -- src/blocks.rt:100:1
@@ -78,15 +72,15 @@ returns-3 : tie.Need-returns-3
 returns-3 c =
     let s = c .before .before .before .before .before .before .before .before .before in
     let g = c .before .r .given in
-    span-rows (now (s .args .file)) (s .args .place) (s .args .len) (s .pre) (c .before .before .before .before .before .before .is-named .result) (c .before .before .before .before .before .before .is-named .ensures ∙ ap (eqb _) pmap-bytes) (not-false _ (c .before .before .before .before .before .if1 .left)) _
+    span-rows (now (s .args .file)) (s .args .place) (s .args .len) (s .pre) (c .before .before .before .before .before .before .is-name .result) (c .before .before .before .before .before .before .is-name .ensures .number (omega arith)) (not-false _ (c .before .before .before .before .before .if1 .left)) _
     (ap (λ x. take x (drop (s .args .place) (now (s .args .file)))) (add-sub-cancel-left (s .args .place) (s .args .len))) (c .before .before .before .read-rows .result) (c .before .before .before .read-rows .ensures) (g .0 .0) (g .0 .1 .0) (g .0 .1 .1 .0) (g .1)
 
 pub span-of-spec : {M : Type 1} → statement M
 span-of-spec =
     tie.close
     (tie.spec
-    slice-aggregate-is-named
-    is-named-requires
+   
+    is-name-requires
     returns
     add-stop
     sub-read-rows
@@ -95,6 +89,6 @@ span-of-spec =
     read-rows-requires
     enum-told
     enum-known-r
-    add-t19
+    add-t18
     returns-2
     returns-3)

@@ -1,10 +1,10 @@
+use native.Mathlib.Omega.{arith}
 use mathlib.Core.Path.{ap, _∙_}
 use native.Mathlib.Nat.{add-sub-cancel-left}
 use lib.Dec.{eqb}
 use lib.ListN.{take, drop}
 use denote.Ref.{now}
 use borrow.Author.Tests.{not-true, not-false}
-use Rattle.schema.proofs.Walk.{psch-bytes}
 use Rattle.pso.proofs.Leading.{first-other, first-psch}
 use borrow.Author.Needs.{needs}
 use Rattle.pso.proofs.definitions.first_of.Statement.{statement}
@@ -12,21 +12,16 @@ use Rattle.pso.proofs.definitions.first_of.Tie as tie
 use Rattle.pso.proofs.definitions.first_of.Reads as reads
 use Rattle.pso.proofs.definitions.first_of.Lts as lts
 use Rattle.pso.proofs.definitions.first_in.Reads as first-in-reads
-use Rattle.schema.proofs.cursor.is_named.Reads as is-named-reads
-
--- src/definitions.rt:45:31
-slice-aggregate-is-named : tie.Need-slice-aggregate-is-named
-slice-aggregate-is-named c = search needs
 
 -- src/definitions.rt:45:9
-is-named-requires : tie.Need-is-named-requires
-is-named-requires c κs = search needs
+is-name-requires : tie.Need-is-name-requires
+is-name-requires c κs = search needs
 
 -- src/definitions.rt:46:9
 returns : tie.Need-returns
 returns c =
     let a = c .before .before .before .before .args in
-    first-other (now (a .file)) (a .place) (a .len) (a .kind) (a .name) (c .before .is-named .result) (c .before .is-named .ensures ∙ ap (eqb _) psch-bytes) (not-true _ (c .if1 .taken))
+    first-other (now (a .file)) (a .place) (a .len) (a .kind) (a .name) (c .before .is-name .result) (c .before .is-name .ensures .number (omega arith)) (not-true _ (c .if1 .taken))
 
 -- src/definitions.rt:48:16
 add-stop : tie.Need-add-stop
@@ -52,15 +47,15 @@ first-in-requires c κs = search needs
 returns-2 : tie.Need-returns-2
 returns-2 c =
     let a = c .before .before .before .before .before .before .args in
-    first-psch (now (a .file)) (a .place) (a .len) (a .kind) (a .name) (c .before .before .before .is-named .result) (c .before .before .before .is-named .ensures ∙ ap (eqb _) psch-bytes) (not-false _ (c .before .before .if1 .left)) _
+    first-psch (now (a .file)) (a .place) (a .len) (a .kind) (a .name) (c .before .before .before .is-name .result) (c .before .before .before .is-name .ensures .number (omega arith)) (not-false _ (c .before .before .if1 .left)) _
     (ap (λ x. take x (drop (a .place) (now (a .file)))) (add-sub-cancel-left (a .place) (a .len))) (c .first-in .result) (c .first-in .ensures)
 
 pub first-of-spec : {M : Type 1} → statement M
 first-of-spec =
     tie.close
     (tie.spec
-    slice-aggregate-is-named
-    is-named-requires
+   
+    is-name-requires
     returns
     add-stop
     sub-first-in

@@ -6,7 +6,7 @@ use lib.ListN.{length}
 use denote.Ref.{now}
 use borrow.Author.Needs.{needs}
 use borrow.Author.Tests.{not-true, not-false}
-use Rattle.schema.proofs.Walk.{onward, ended, broke, psin-bytes}
+use Rattle.schema.proofs.Walk.{onward, ended, broke}
 use Rattle.pso.proofs.Sight.{Going, first, no-name, bad-name, parse-end, parse-broken, parse-refused, parse-turn}
 use Rattle.pso.proofs.parse.parse_pso.Statement.{statement}
 use Rattle.pso.proofs.parse.parse_pso.Tie as tie
@@ -16,7 +16,6 @@ use Rattle.pso.proofs.parse.finish.Reads as finish-reads
 use Rattle.pso.proofs.parse.see.Reads as see-reads
 use Rattle.schema.proofs.cursor.Cursor.new.Reads as new-reads
 use Rattle.schema.proofs.cursor.Cursor.step.Reads as step-reads
-use Rattle.schema.proofs.cursor.is_named.Reads as is-named-reads
 
 abbrev Inv-loop : tie.InvT-loop
 Inv-loop file c₀ s₀ c s = (c .at ≤ length file) × (s .blocks ≤ c .at) × Going file (c .at) s
@@ -28,17 +27,13 @@ abbrev μ-loop : tie.MeasureT-loop
 returns : tie.Need-returns Inv-loop μ-loop
 returns c = no-name (now (c .before .before .args .file)) (c .if1 .taken)
 
--- src/parse.rt:134:27
-slice-aggregate-is-named : tie.Need-slice-aggregate-is-named Inv-loop μ-loop
-slice-aggregate-is-named c = search needs
-
 -- src/parse.rt:134:9
-is-named-requires : tie.Need-is-named-requires Inv-loop μ-loop
-is-named-requires c κs = search needs
+is-name-requires : tie.Need-is-name-requires Inv-loop μ-loop
+is-name-requires c κs = search needs
 
 -- src/parse.rt:135:9
 returns-2 : tie.Need-returns-2 Inv-loop μ-loop
-returns-2 c = bad-name (now (c .before .before .before .before .before .args .file)) (c .before .before .before .if1 .left) (c .before .is-named .result) (c .before .is-named .ensures ∙ ap (eqb _) psin-bytes) (not-true _ (c .if2 .taken))
+returns-2 c = bad-name (now (c .before .before .before .before .before .args .file)) (c .before .before .before .if1 .left) (c .before .is-name .result) (c .before .is-name .ensures .number (omega arith)) (not-true _ (c .if2 .taken))
 
 -- src/parse.rt:137:9
 new-requires : tie.Need-new-requires Inv-loop μ-loop
@@ -65,7 +60,7 @@ returns-3 : tie.Need-returns-3 Inv-loop μ-loop
 returns-3 c =
     let F = now (c .before .before .before .before .before .before .before .before .before .before .before .args .file) in
     let l = c .before .before .before .before .loop in
-    parse-end F (c .before .before .before .before .before .before .before .before .before .if1 .left) (c .before .before .before .before .before .before .before .is-named .result) (c .before .before .before .before .before .before .before .is-named .ensures ∙ ap (eqb _) psin-bytes) (not-false _ (c .before .before .before .before .before .before .if2 .left)) (l .c .at) (l .s) (l .inv .2)
+    parse-end F (c .before .before .before .before .before .before .before .before .before .if1 .left) (c .before .before .before .before .before .before .before .is-name .result) (c .before .before .before .before .before .before .before .is-name .ensures .number (omega arith)) (not-false _ (c .before .before .before .before .before .before .if2 .left)) (l .c .at) (l .s) (l .inv .2)
     (ended F (l .c .at) (c .before .before .before .step .result) (c .before .before .before .step .ensures) (c .before .enum-told .given .1)) (c .finish .result) (c .finish .ensures)
 
 -- src/parse.rt:153:17
@@ -77,7 +72,7 @@ returns-4 : tie.Need-returns-4 Inv-loop μ-loop
 returns-4 c =
     let F = now (c .before .before .before .before .before .before .before .before .before .before .args .file) in
     let l = c .before .before .before .loop in
-    parse-broken F (c .before .before .before .before .before .before .before .before .if1 .left) (c .before .before .before .before .before .before .is-named .result) (c .before .before .before .before .before .before .is-named .ensures ∙ ap (eqb _) psin-bytes) (not-false _ (c .before .before .before .before .before .if2 .left)) (l .c .at) (l .s) (l .inv .2)
+    parse-broken F (c .before .before .before .before .before .before .before .before .if1 .left) (c .before .before .before .before .before .before .is-name .result) (c .before .before .before .before .before .before .is-name .ensures .number (omega arith)) (not-false _ (c .before .before .before .before .before .if2 .left)) (l .c .at) (l .s) (l .inv .2)
     (broke F (l .c .at) (c .before .before .step .result) (c .before .before .step .ensures) (c .enum-told2 .given .1))
 
 -- src/parse.rt:155:29
@@ -103,7 +98,7 @@ returns-5 c =
     let l = c .before .before .before .before .before .before .before .before .loop in
     let g = c .before .before .before .before .before .q .given in
     let o = onward F (l .c .at) (c .before .before .before .before .before .before .before .step .result) (c .before .before .before .before .before .before .before .step .ensures) (g .0 .0) (g .0 .1 .0) (g .0 .1 .1 .0) (g .1) in
-    parse-refused F (c .before .before .before .before .before .before .before .before .before .before .before .before .before .if1 .left) (c .before .before .before .before .before .before .before .before .before .before .before .is-named .result) (c .before .before .before .before .before .before .before .before .before .before .before .is-named .ensures ∙ ap (eqb _) psin-bytes) (not-false _ (c .before .before .before .before .before .before .before .before .before .before .if2 .left)) (l .c .at) (l .s) (l .inv .2)
+    parse-refused F (c .before .before .before .before .before .before .before .before .before .before .before .before .before .if1 .left) (c .before .before .before .before .before .before .before .before .before .before .before .is-name .result) (c .before .before .before .before .before .before .before .before .before .before .before .is-name .ensures .number (omega arith)) (not-false _ (c .before .before .before .before .before .before .before .before .before .before .if2 .left)) (l .c .at) (l .s) (l .inv .2)
     (g .0 .0) (g .0 .1 .0) (g .0 .1 .1 .0 .at) (c .before .before .before .see .result) (o .left) (c .before .before .before .see .ensures) (c .before .w .given .0 .0) (c .before .w .given .1)
 
 -- src/parse.rt:161:31
@@ -138,8 +133,8 @@ parse-pso-spec =
     Inv-loop
     μ-loop
     returns
-    slice-aggregate-is-named
-    is-named-requires
+   
+    is-name-requires
     returns-2
     new-requires
     loop-holds

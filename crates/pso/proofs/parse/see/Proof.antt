@@ -5,7 +5,6 @@ use lib.Dec.{eqb}
 use lib.ListN.{length, take, drop, length-drop}
 use lib.Seq.{length-take-le}
 use denote.Ref.{now}
-use Rattle.schema.proofs.Walk.{psin-bytes, pmap-bytes, psch-bytes}
 use Rattle.pso.proofs.Sight.{see-data, see-map, see-defs, see-other, map-fits, part-length}
 use borrow.Author.Needs.{needs}
 use Rattle.pso.proofs.parse.see.Statement.{statement}
@@ -16,33 +15,24 @@ use Rattle.pso.proofs.blocks.read_rows.Reads as read-rows-reads
 use Rattle.pso.proofs.parse.with_defs.Reads as with-defs-reads
 use Rattle.pso.proofs.parse.with_map.Reads as with-map-reads
 use Rattle.schema.proofs.check.check_psch.Reads as check-psch-reads
-use Rattle.schema.proofs.cursor.is_named.Reads as is-named-reads
-
--- src/parse.rt:78:30
-slice-aggregate-is-named : tie.Need-slice-aggregate-is-named
-slice-aggregate-is-named c = search needs
 
 -- src/parse.rt:78:8
-is-named-requires : tie.Need-is-named-requires
-is-named-requires c κs = search needs
+is-name-requires : tie.Need-is-name-requires
+is-name-requires c κs = search needs
 
 -- src/parse.rt:79:9
 returns : tie.Need-returns
 returns c =
     let a = c .before .before .before .before .args in
-    see-data (now (a .file)) (a .place) (a .len) (a .s) (c .before .is-named .result) (c .before .is-named .ensures ∙ ap (eqb _) psin-bytes) (c .if1 .taken)
+    see-data (now (a .file)) (a .place) (a .len) (a .s) (c .before .is-name .result) (c .before .is-name .ensures .number (omega arith)) (c .if1 .taken)
 
 -- src/parse.rt:88:16
 add-stop : tie.Need-add-stop
 add-stop c = search needs
 
--- src/parse.rt:89:30
-slice-aggregate-is-named-2 : tie.Need-slice-aggregate-is-named-2
-slice-aggregate-is-named-2 c = search needs
-
 -- src/parse.rt:89:8
-is-named-requires-2 : tie.Need-is-named-requires-2
-is-named-requires-2 c κs = search needs
+is-name-requires-2 : tie.Need-is-name-requires-2
+is-name-requires-2 c κs = search needs
 
 -- src/parse.rt:90:35
 sub-read-rows : tie.Need-sub-read-rows
@@ -74,17 +64,13 @@ returns-2 : tie.Need-returns-2
 returns-2 c =
     let s = c .before .before .before .before .before .before .before .before .before .before in
     let a = s .args in
-    see-map (now (a .file)) (a .place) (a .len) (a .s) (c .before .before .before .before .before .before .before .is-named .result) (c .before .before .before .before .before .before .before .is-named .ensures ∙ ap (eqb _) psin-bytes) (c .before .before .before .before .before .before .if1 .left)
-    (c .before .before .before .before .is-named2 .result) (c .before .before .before .before .is-named2 .ensures ∙ ap (eqb _) pmap-bytes) (part-length (now (a .file)) (a .place) (a .len) (s .pre .0)) (c .before .before .before .if2 .taken) _
+    see-map (now (a .file)) (a .place) (a .len) (a .s) (c .before .before .before .before .before .before .before .is-name .result) (c .before .before .before .before .before .before .before .is-name .ensures .number (omega arith)) (c .before .before .before .before .before .before .if1 .left)
+    (c .before .before .before .before .is-name2 .result) (c .before .before .before .before .is-name2 .ensures .number (omega arith)) (part-length (now (a .file)) (a .place) (a .len) (s .pre .0)) (c .before .before .before .if2 .taken) _
     (ap (λ x. take x (drop (a .place) (now (a .file)))) (add-sub-cancel-left (a .place) (a .len))) (c .before .read-rows .result) (c .before .read-rows .ensures) (c .with-map .result) (c .with-map .ensures)
 
--- src/parse.rt:92:30
-slice-aggregate-is-named-3 : tie.Need-slice-aggregate-is-named-3
-slice-aggregate-is-named-3 c = search needs
-
 -- src/parse.rt:92:8
-is-named-requires-3 : tie.Need-is-named-requires-3
-is-named-requires-3 c κs = search needs
+is-name-requires-3 : tie.Need-is-name-requires-3
+is-name-requires-3 c κs = search needs
 
 -- src/parse.rt:93:37
 sub-check-psch : tie.Need-sub-check-psch
@@ -110,35 +96,35 @@ with-defs-requires c κs = search needs
 returns-3 : tie.Need-returns-3
 returns-3 c =
     let a = c .before .before .before .before .before .before .before .before .before .before .before .before .before .args in
-    see-defs (now (a .file)) (a .place) (a .len) (a .s) (c .before .before .before .before .before .before .before .before .before .before .is-named .result) (c .before .before .before .before .before .before .before .before .before .before .is-named .ensures ∙ ap (eqb _) psin-bytes) (c .before .before .before .before .before .before .before .before .before .if1 .left)
-    (c .before .before .before .before .before .before .before .is-named2 .result) (c .before .before .before .before .before .before .before .is-named2 .ensures ∙ ap (eqb _) pmap-bytes) (c .before .before .before .before .before .before .if2 .left) (c .before .before .before .before .is-named3 .result) (c .before .before .before .before .is-named3 .ensures ∙ ap (eqb _) psch-bytes) (c .before .before .before .if3 .taken) _
+    see-defs (now (a .file)) (a .place) (a .len) (a .s) (c .before .before .before .before .before .before .before .before .before .before .is-name .result) (c .before .before .before .before .before .before .before .before .before .before .is-name .ensures .number (omega arith)) (c .before .before .before .before .before .before .before .before .before .if1 .left)
+    (c .before .before .before .before .before .before .before .is-name2 .result) (c .before .before .before .before .before .before .before .is-name2 .ensures .number (omega arith)) (c .before .before .before .before .before .before .if2 .left) (c .before .before .before .before .is-name3 .result) (c .before .before .before .before .is-name3 .ensures .number (omega arith)) (c .before .before .before .if3 .taken) _
     (ap (λ x. take x (drop (a .place) (now (a .file)))) (add-sub-cancel-left (a .place) (a .len))) (c .before .check-psch .result) (c .before .check-psch .ensures) (c .with-defs .result) (c .with-defs .ensures)
 
 -- src/parse.rt:72:1
 returns-4 : tie.Need-returns-4
 returns-4 c =
     let a = c .before .before .before .before .before .before .before .before .before .before .args in
-    see-other (now (a .file)) (a .place) (a .len) (a .s) (c .before .before .before .before .before .before .before .is-named .result) (c .before .before .before .before .before .before .before .is-named .ensures ∙ ap (eqb _) psin-bytes) (c .before .before .before .before .before .before .if1 .left)
-    (c .before .before .before .before .is-named2 .result) (c .before .before .before .before .is-named2 .ensures ∙ ap (eqb _) pmap-bytes) (c .before .before .before .if2 .left) (c .before .is-named3 .result) (c .before .is-named3 .ensures ∙ ap (eqb _) psch-bytes) (c .if3 .left)
+    see-other (now (a .file)) (a .place) (a .len) (a .s) (c .before .before .before .before .before .before .before .is-name .result) (c .before .before .before .before .before .before .before .is-name .ensures .number (omega arith)) (c .before .before .before .before .before .before .if1 .left)
+    (c .before .before .before .before .is-name2 .result) (c .before .before .before .before .is-name2 .ensures .number (omega arith)) (c .before .before .before .if2 .left) (c .before .is-name3 .result) (c .before .is-name3 .ensures .number (omega arith)) (c .if3 .left)
 
 pub see-spec : {M : Type 1} → statement M
 see-spec =
     tie.close
     (tie.spec
-    slice-aggregate-is-named
-    is-named-requires
+   
+    is-name-requires
     returns
     add-stop
-    slice-aggregate-is-named-2
-    is-named-requires-2
+   
+    is-name-requires-2
     sub-read-rows
     part-read-rows-start
     part-read-rows-end
     read-rows-requires
     with-map-requires
     returns-2
-    slice-aggregate-is-named-3
-    is-named-requires-3
+   
+    is-name-requires-3
     sub-check-psch
     part-check-psch-start
     part-check-psch-end

@@ -1,32 +1,27 @@
+use native.Mathlib.Omega.{arith}
 use borrow.Author.Tests.{not-true, not-false}
 use mathlib.Core.Path.{ap, _∙_}
 use lib.Dec.{eqb}
 use lib.ListN.{take, drop}
 use native.Mathlib.Nat.{add-sub-cancel-left}
 use denote.Ref.{now}
-use Rattle.schema.proofs.Walk.{psch-bytes}
 use Rattle.schema.proofs.Seek.{last-other, last-at, last-before}
 use borrow.Author.Needs.{needs}
 use Rattle.schema.proofs.lookup.last_of.Statement.{statement}
 use Rattle.schema.proofs.lookup.last_of.Tie as tie
 use Rattle.schema.proofs.lookup.last_of.Reads as reads
 use Rattle.schema.proofs.lookup.last_of.Lts as lts
-use Rattle.schema.proofs.cursor.is_named.Reads as is-named-reads
 use Rattle.schema.proofs.lookup.last_in.Reads as last-in-reads
 
--- src/lookup.rt:67:31
-slice-aggregate-is-named : tie.Need-slice-aggregate-is-named
-slice-aggregate-is-named c = search needs
-
 -- src/lookup.rt:67:9
-is-named-requires : tie.Need-is-named-requires
-is-named-requires c κs = search needs
+is-name-requires : tie.Need-is-name-requires
+is-name-requires c κs = search needs
 
 -- src/lookup.rt:68:9
 returns : tie.Need-returns
 returns c =
     let a = c .before .before .before .before .args in
-    last-other (now (a .file)) (a .place) (a .len) (a .kind) (a .name) (a .found) (c .before .is-named .result) (c .before .is-named .ensures ∙ ap (eqb _) psch-bytes) (not-true _ (c .if1 .taken))
+    last-other (now (a .file)) (a .place) (a .len) (a .kind) (a .name) (a .found) (c .before .is-name .result) (c .before .is-name .ensures .number (omega arith)) (not-true _ (c .if1 .taken))
 
 -- src/lookup.rt:70:16
 add-stop : tie.Need-add-stop
@@ -60,22 +55,22 @@ enum-told c = search needs
 returns-2 : tie.Need-returns-2
 returns-2 c =
     let a = c .before .before .before .before .before .before .before .before .before .args in
-    last-at (now (a .file)) (a .place) (a .len) (a .kind) (a .name) (a .found) (c .before .before .before .before .before .before .is-named .result) (c .before .before .before .before .before .before .is-named .ensures ∙ ap (eqb _) psch-bytes) (not-false _ (c .before .before .before .before .before .if1 .left)) _
+    last-at (now (a .file)) (a .place) (a .len) (a .kind) (a .name) (a .found) (c .before .before .before .before .before .before .is-name .result) (c .before .before .before .before .before .before .is-name .ensures .number (omega arith)) (not-false _ (c .before .before .before .before .before .if1 .left)) _
     (ap (λ x. take x (drop (a .place) (now (a .file)))) (add-sub-cancel-left (a .place) (a .len))) (c .before .before .before .last-in .result) (c .before .before .before .last-in .ensures) (c .before .f .given .0 .0) (c .before .f .given .1)
 
 -- src/lookup.rt:63:1
 returns-3 : tie.Need-returns-3
 returns-3 c =
     let a = c .before .before .before .before .before .before .before .before .args in
-    last-before (now (a .file)) (a .place) (a .len) (a .kind) (a .name) (a .found) (c .before .before .before .before .before .is-named .result) (c .before .before .before .before .before .is-named .ensures ∙ ap (eqb _) psch-bytes) (not-false _ (c .before .before .before .before .if1 .left)) _
+    last-before (now (a .file)) (a .place) (a .len) (a .kind) (a .name) (a .found) (c .before .before .before .before .before .is-name .result) (c .before .before .before .before .before .is-name .ensures .number (omega arith)) (not-false _ (c .before .before .before .before .if1 .left)) _
     (ap (λ x. take x (drop (a .place) (now (a .file)))) (add-sub-cancel-left (a .place) (a .len))) (c .before .before .last-in .result) (c .before .before .last-in .ensures) (c .enum-told .given .1)
 
 pub last-of-spec : {M : Type 1} → statement M
 last-of-spec =
     tie.close
     (tie.spec
-    slice-aggregate-is-named
-    is-named-requires
+   
+    is-name-requires
     returns
     add-stop
     sub-last-in
