@@ -1,6 +1,6 @@
 -- The loops that look a name up: over the index entries of a section, and over the sections of a file. Assumes nothing.
 use mathlib.Core.Path.{_≡_, refl, sym, ap, ap₂, _∙_}
-use mathlib.Core.Bool.{Bool, true, false, cond, _&&_}
+use mathlib.Core.Bool.{Bool, true, false, cond, _&&_, _||_}
 use mathlib.Core.List.{List, [], _∷_, _++_, map}
 use mathlib.Core.Option.{Option, none, some}
 use Prim.Native.Nat.{ℕ, zero, suc, _+_, _-_, _*_, _≤_, _<_}
@@ -9,13 +9,12 @@ use native.Mathlib.Omega.{arith}
 use lib.Dec.{ltb, eqb}
 use lib.ListN.{length, take, drop}
 use Rattle.numbers.specs.Words.{Bytes, readAt}
-use Rattle.numbers.specs.Result.{orElse, mapOption}
+use Rattle.numbers.specs.Result.{given, isSome, orElse, orValue, mapOption}
 use Rattle.schema.specs.Sections.{Sections, section, end, broken, sections, PSCH}
 use Rattle.schema.specs.Index.{entryCount, leadsTo, kept, placesFrom, placesIn, sectionPlaces, placesOf, firstOf, lastOf, lastPlace}
 use Rattle.schema.specs.Steps.{rest}
 use Rattle.schema.specs.Answers.{foundIs}
 use Rattle.schema.specs.declared.lookup.Found.{Found}
-use Rattle.schema.specs.declared.lookup.Found.the-variants.{At, Nothing}
 use Rattle.schema.proofs.Walk.{rest-all, Onward}
 use Rattle.schema.proofs.Finds.{or-or, or-none, last-map, last-append}
 
@@ -75,71 +74,71 @@ module _ (P : Bytes) (kind name : ℕ) where
       let b : 12 + 8 * i ≡ 12 = omega arith in
       sym (ap lastOf (ap₂ (placesFrom P kind name) (sym a) (sym b) ∙ g))
 
--- ---- a section, after what was found before it
-module _ (F : Bytes) (place len kind name : ℕ) (found : Found) (t : Bool) (e : t ≡ eqb (readAt 4 F place) PSCH) where
+-- ---- a section
+module _ (F : Bytes) (place len kind name : ℕ) (t : Bool) (e : t ≡ eqb (readAt 4 F place) PSCH) where
   abbrev part : Bytes
   part = take len (drop place F)
 
-  abbrev after : Option ℕ
-  after = orElse (mapOption (place +_) (lastOf (sectionPlaces (readAt 4 F place) part kind name))) (foundIs found)
+  abbrev here : Option ℕ
+  here = mapOption (place +_) (lastOf (sectionPlaces (readAt 4 F place) part kind name))
 
-  pub last-other : t ≡ false → foundIs found ≡ after
+  pub last-other : t ≡ false → none ≡ here
   unfolding sectionPlaces lastOf
   last-other f = rw (← e, f, sectionPlaces)
 
-  module _ (f : t ≡ true) (p : Bytes) (q : p ≡ part) (r : Found) (g : foundIs r ≡ mapOption (place +_) (lastOf (placesIn p kind name))) where
-    in-psch : orElse (foundIs r) (foundIs found) ≡ after
-    unfolding sectionPlaces
-    in-psch =
-        rw (← e, f, sectionPlaces)
-        (ap (λ (o : Option ℕ). orElse o (foundIs found)) (g ∙ ap (λ (x : Bytes). mapOption (place +_) (lastOf (placesIn x kind name))) q))
+  pub last-psch : t ≡ true → (p : Bytes) → p ≡ part → (r : Found) → foundIs r ≡ mapOption (place +_) (lastOf (placesIn p kind name)) → foundIs r ≡ here
+  unfolding sectionPlaces
+  last-psch f p q r g = rw (← e, f, sectionPlaces) (g ∙ ap (λ (x : Bytes). mapOption (place +_) (lastOf (placesIn x kind name))) q)
 
-    pub last-at : (at : ℕ) → r ≡ At at → foundIs (At at) ≡ after
-    last-at at x = rw x at in-psch
-
-    pub last-before : r ≡ Nothing → foundIs found ≡ after
-    last-before x = rw x at in-psch
+-- a find behind another
+pub later : (o : Option ℕ) (hit : Bool) (at : ℕ) → given (hit || isSome o) (orValue o at) ≡ orElse o (given hit at)
+later (some a) true at = refl
+later (some a) false at = refl
+later none true at = refl
+later none false at = refl
 
 -- ---- the sections of a file
 module _ (F : Bytes) (kind name : ℕ) where
   -- what is left of the sections leads to the same end
-  pub record Going (at : ℕ) (found : Found) : Type 0 where
-    pub same : orElse (lastOf (placesOf kind name (rest F at) at)) (foundIs found) ≡ lastPlace F kind name
+  pub record Going (c : ℕ) (hit : Bool) (at : ℕ) : Type 0 where
+    pub same : orElse (lastOf (placesOf kind name (rest F c) c)) (given hit at) ≡ lastPlace F kind name
 
-  pub first : (at : ℕ) → at ≡ 0 → Going at Nothing
+  pub first : (c : ℕ) → c ≡ 0 → Going c false 0
   unfolding lastPlace
-  first at e =
+  first c e =
       record {
         same =
-            or-none (lastOf (placesOf kind name (rest F at) at)) ∙ ap (λ (x : ℕ). lastOf (placesOf kind name (rest F x) x)) e
+            or-none (lastOf (placesOf kind name (rest F c) c)) ∙ ap (λ (x : ℕ). lastOf (placesOf kind name (rest F x) x)) e
             ∙ ap (λ (x : Sections). lastOf (placesOf kind name x 0)) (rest-all F);
       }
 
-  module _ (at : ℕ) (found : Found) (g : Going at found) where
-    on : (ss : Sections) → rest F at ≡ ss → orElse (lastOf (placesOf kind name ss at)) (foundIs found) ≡ lastPlace F kind name
-    on ss e = ap (λ (x : Sections). orElse (lastOf (placesOf kind name x at)) (foundIs found)) (sym e) ∙ g .same
+  module _ (c : ℕ) (hit : Bool) (at : ℕ) (g : Going c hit at) where
+    on : (ss : Sections) → rest F c ≡ ss → orElse (lastOf (placesOf kind name ss c)) (given hit at) ≡ lastPlace F kind name
+    on ss e = ap (λ (x : Sections). orElse (lastOf (placesOf kind name x c)) (given hit at)) (sym e) ∙ g .same
 
-    pub at-end : rest F at ≡ end → foundIs found ≡ lastPlace F kind name
+    pub at-end : rest F c ≡ end → given hit at ≡ lastPlace F kind name
     unfolding placesOf lastOf
     at-end e = on end e
 
-    pub at-broken : rest F at ≡ broken → foundIs found ≡ lastPlace F kind name
+    pub at-broken : rest F c ≡ broken → given hit at ≡ lastPlace F kind name
     unfolding placesOf lastOf
     at-broken e = on broken e
 
-    pub turn : (place len next : ℕ) (r : Found) → Onward F at place len next
-        → foundIs r ≡ orElse (mapOption (place +_) (lastOf (sectionPlaces (readAt 4 F place) (take len (drop place F)) kind name))) (foundIs found) → Going next r
+    pub turn : (place len next : ℕ) (o : Option ℕ) → Onward F c place len next
+        → o ≡ mapOption (place +_) (lastOf (sectionPlaces (readAt 4 F place) (take len (drop place F)) kind name))
+        → (hit′ : Bool) (at′ : ℕ) → hit′ ≡ (hit || isSome o) → at′ ≡ orValue o at → Going next hit′ at′
     unfolding placesOf
-    turn place len next r o q =
+    turn place len next o w q hit′ at′ x y =
         let P = take len (drop place F) in
         let ps = sectionPlaces (readAt 4 F place) P kind name in
-        let n : next ≡ at + length P = omega (arith, o .here, o .on, o .whole) in
+        let n : next ≡ c + length P = omega (arith, w .here, w .on, w .whole) in
         let rs = placesOf kind name (rest F next) next in
+        let old = given hit at in
         record {
           same =
-              ap (orElse (lastOf rs)) (q ∙ ap (λ (x : Option ℕ). orElse x (foundIs found)) (sym (last-map (place +_) ps)))
-              ∙ sym (or-or (lastOf rs) (lastOf (map (place +_) ps)) (foundIs found))
-              ∙ ap (λ (x : Option ℕ). orElse x (foundIs found))
-              (sym (last-append (map (place +_) ps) rs) ∙ ap₂ (λ x y. lastOf (map (x +_) ps ++ placesOf kind name (rest F next) y)) (o .here) n)
-              ∙ on (section (readAt 4 F place) P (rest F next)) (o .left);
+              ap (orElse (lastOf rs)) (ap₂ given x y ∙ later o hit at ∙ ap (λ (z : Option ℕ). orElse z old) (q ∙ sym (last-map (place +_) ps)))
+              ∙ sym (or-or (lastOf rs) (lastOf (map (place +_) ps)) old)
+              ∙ ap (λ (z : Option ℕ). orElse z old)
+              (sym (last-append (map (place +_) ps) rs) ∙ ap₂ (λ a b. lastOf (map (a +_) ps ++ placesOf kind name (rest F next) b)) (w .here) n)
+              ∙ on (section (readAt 4 F place) P (rest F next)) (w .left);
         }

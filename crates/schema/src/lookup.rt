@@ -9,7 +9,7 @@ ghost use mathlib.Core.Path.{_≡_};
 ghost use Prim.Native.Nat.{ℕ, _+_, _^_, _≤_, _<_};
 ghost use lib.ListN.{length, take, drop};
 ghost use Rattle.numbers.specs.Words.{readAt};
-ghost use Rattle.numbers.specs.Result.{ok, orElse, mapOption};
+ghost use Rattle.numbers.specs.Result.{ok, given, isSome, orValue, mapOption};
 ghost use Rattle.schema.specs.Defs.{Schema, winning};
 ghost use Rattle.schema.specs.Psch.{schemaOf};
 ghost use Rattle.schema.specs.Index.{entryCount, leadsTo, placesIn, sectionPlaces, lastOf, lastPlace};
@@ -59,19 +59,42 @@ fn last_in(p: &[u8], from: usize, kind: u8, name: u32) -> Found
     Found::Nothing
 }
 
-// The same of a section, or what was found before it.
-fn last_of(file: &[u8], place: usize, len: usize, kind: u8, name: u32, found: Found) -> Found
+// The same of a section: another than PSCH has no definitions.
+fn last_of(file: &[u8], place: usize, len: usize, kind: u8, name: u32) -> Found
     requires { ⌜ place + len ≤ length (now file) ⌝ }
-    ensures { λ r. ⌜ foundIs r ≡ orElse (mapOption (place +_) (lastOf (sectionPlaces (readAt 4 (now (file .entry)) place) (take len (drop place (now (file .entry)))) kind name))) (foundIs found) ⌝ }
+    ensures { λ r. ⌜ foundIs r ≡ mapOption (place +_) (lastOf (sectionPlaces (readAt 4 (now (file .entry)) place) (take len (drop place (now (file .entry)))) kind name)) ⌝ }
 {
     if !is_name(file, place, b"PSCH") {
-        return found;
+        return Found::Nothing;
     }
     let stop = place + len;
-    let f = last_in(&file[place..stop], place, kind, name);
+    last_in(&file[place..stop], place, kind, name)
+}
+
+fn found_at(hit: bool, at: usize) -> Found
+    ensures { λ r. ⌜ foundIs r ≡ given hit at ⌝ }
+{
+    if hit {
+        return Found::At(at);
+    }
+    Found::Nothing
+}
+
+fn is_found(f: Found) -> bool
+    ensures { λ r. ⌜ r ≡ isSome (foundIs f) ⌝ }
+{
     match f {
-        Found::At(at) => Found::At(at),
-        Found::Nothing => found,
+        Found::At(at) => true,
+        Found::Nothing => false,
+    }
+}
+
+fn place_or(f: Found, other: usize) -> usize
+    ensures { λ r. ⌜ r ≡ orValue (foundIs f) other ⌝ }
+{
+    match f {
+        Found::At(at) => at,
+        Found::Nothing => other,
     }
 }
 
@@ -80,18 +103,21 @@ fn last(file: &[u8], kind: u8, name: u32) -> Found
     ensures { λ r. ⌜ foundIs r ≡ lastPlace (now (file .entry)) kind name ⌝ }
 {
     let mut c = Cursor::new();
-    let mut found = Found::Nothing;
+    let mut hit = false;
+    let mut at = 0;
     loop {
         let s = c.step(file);
         match s {
             Step::End => {
-                return found;
+                return found_at(hit, at);
             }
             Step::Broken => {
-                return found;
+                return found_at(hit, at);
             }
             Step::Section { place, len, next } => {
-                found = last_of(file, place, len, kind, name, found);
+                let f = last_of(file, place, len, kind, name);
+                hit = hit | is_found(f);
+                at = place_or(f, at);
                 c = next;
             }
         }
