@@ -13,7 +13,7 @@ use Rattle.numbers.specs.Result.{Result, ok, refused, andThen, mapResult, neede
 use Rattle.schema.specs.Sections.{Sections, section, end, broken, sections, PSIN, PMAP, PSCH}
 use Rattle.schema.specs.Defs.{leading}
 use Rattle.schema.specs.Psch.{Def, pschOf, sectionDefs, defsOf, schemaFrom, schemaOf}
-use Rattle.schema.specs.Index.{entryCount, leadsTo, kept, placesFrom, placesIn, sectionPlaces, placesOf, firstOf, firstPlace}
+use Rattle.schema.specs.Index.{indexCount, leadsTo, kept, placesFrom, placesIn, sectionPlaces, placesOf, firstOf, firstPlace}
 use Rattle.schema.specs.Steps.{rest}
 use Rattle.schema.specs.Answers.{foundIs}
 use Rattle.schema.specs.declared.lookup.Found.{Found}

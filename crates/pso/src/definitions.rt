@@ -4,9 +4,9 @@ use numbers::words::read_u32;
 use schema::cursor::Cursor;
 use schema::cursor::Step;
 use schema::lookup::Found;
-use schema::lookup::entry_count;
+use schema::lookup::index_count;
 use schema::lookup::leads_to;
-use schema::members::entry_total;
+use schema::members::entry_count;
 use schema::members::read_head;
 ghost use mathlib.Core.Path.{_≡_};
 ghost use Prim.Native.Nat.{_+_, _^_, _≤_, _<_};
@@ -24,7 +24,7 @@ fn first_in(p: &[u8], from: usize, kind: u8, name: u32) -> Found
     requires { ⌜ from < 2 ^ 63 ⌝ }
     ensures { λ r. ⌜ foundIs r ≡ mapOption (from +_) (firstOf (placesIn (now (p .entry)) kind name)) ⌝ }
 {
-    let n = entry_count(p);
+    let n = index_count(p);
     let mut i = 0;
     while i < n {
         let at = 12 + 8 * i;
@@ -118,7 +118,7 @@ pub fn enumeration(file: &[u8], name: u32) -> Definition
     match f {
         Found::Nothing => Definition::Nothing,
         Found::At(at) => {
-            let n = entry_total(file, at);
+            let n = entry_count(file, at);
             Definition::Found {
                 unknown: 0,
                 size: 0,

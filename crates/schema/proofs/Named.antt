@@ -13,8 +13,9 @@ use Rattle.numbers.specs.Result.{Result, ok, refused, andThen, mapResult}
 use Rattle.schema.specs.Sections.{Sections, section, end, broken, PSCH, lengthAt, overruns, sectionsFrom, sections}
 use Rattle.schema.specs.Defs.{Schema, StructDef, EnumDef, structName, enumName}
 use Rattle.schema.specs.Psch.{Def, structure, enumeration, structHere, enumHere, defAt, defsFrom, pschOf, sectionDefs, defsOf, schemaFrom, schemaOf}
-use Rattle.schema.specs.Index.{entryCount, leadsTo, kept, placesFrom, placesIn, sectionPlaces, placesOf}
+use Rattle.schema.specs.Index.{indexCount, leadsTo, kept, placesFrom, placesIn, sectionPlaces, placesOf}
 use Rattle.schema.specs.Steps.{defHere}
+use Rattle.schema.proofs.Walk.{whole-part}
 use Rattle.schema.proofs.Judge.{Read, def-read}
 use Rattle.schema.proofs.Counts.{Indexed, indexed}
 use Rattle.schema.proofs.Places.{def-part}
@@ -97,7 +98,7 @@ module _ (F : Bytes) (from len kind name : ℕ) (l : length (take len (drop from
       with-one (readAt 4 part pos) (readAt 4 part (pos + 4)) ds (placesFrom part kind name n (pos + 8)) (defAt part (readAt 4 part pos) (readAt 4 part (pos + 4)))
       (defsFrom part n (pos + 8)) refl (λ es. entries n (pos + 8) es) e
 
-  all-inside : (ds : List Def) (x : Indexed part ds) (n : ℕ) → x .count ≡ n → entryCount part ≡ n
+  all-inside : (ds : List Def) (x : Indexed part ds) (n : ℕ) → x .count ≡ n → indexCount part ≡ n
   all-inside ds x zero q = omega (arith, x .read)
   all-inside ds x (suc n) q = omega (arith, x .read, x .fits (omega arith))
 
@@ -117,17 +118,6 @@ module _ (F : Bytes) (from len kind name : ℕ) (l : length (take len (drop from
 module _ (F : Bytes) (kind name : ℕ) where
   abbrev found : ℕ → Def
   found q = defHere F kind name q
-
-  inside : (at : ℕ) → overruns F at ≡ false → length (take (lengthAt F at) (drop at F)) ≡ lengthAt F at
-  unfolding overruns
-  inside at = go (ltb (lengthAt F at) 8) (ltb (length F) (at + lengthAt F at)) refl
-    where
-      go : (a b : Bool) → ltb (length F) (at + lengthAt F at) ≡ b → (a || b) ≡ false → length (take (lengthAt F at) (drop at F)) ≡ lengthAt F at
-      go true b q e = absurd (false≢true (sym e))
-      go false true q e = absurd (false≢true (sym e))
-      go false false q e =
-          let h = ltb-false (length F) (at + lengthAt F at) q in
-          length-take-le (lengthAt F at) (drop at F) (omega (arith, length-drop at F))
 
   with-section : (at next : ℕ) (P : Bytes) (ss : Sections) (ds : List Def) (ps : List ℕ) (X Y : Result (List Def)) → at + length P ≡ next
       → ((es : List Def) → X ≡ ok es → map (λ q. found (at + q)) ps ≡ chosen kind name es) → ((es : List Def) → Y ≡ ok es → map found (placesOf kind name ss next) ≡ chosen kind name es)
@@ -165,7 +155,7 @@ module _ (F : Bytes) (kind name : ℕ) where
           ap (chosen kind name) f
       go false true q ih e = cc
       go false false q ih e =
-          let l = inside at q in
+          let l = whole-part F at q .0 in
           with-section at (at + lengthAt F at) P ss ds (sectionPlaces (readAt 4 F at) P kind name) (sectionDefs (readAt 4 F at) P) (defsOf ss) (ap (at +_) l)
           (λ es. in-section F at (lengthAt F at) kind name l (readAt 4 F at) es) ih e
 

@@ -11,7 +11,7 @@ use lib.ListN.{length, take, drop}
 use Rattle.numbers.specs.Words.{Bytes, readAt}
 use Rattle.numbers.specs.Result.{given, isSome, orElse, orValue, mapOption}
 use Rattle.schema.specs.Sections.{Sections, section, end, broken, sections, PSCH}
-use Rattle.schema.specs.Index.{entryCount, leadsTo, kept, placesFrom, placesIn, sectionPlaces, placesOf, firstOf, lastOf, lastPlace}
+use Rattle.schema.specs.Index.{indexCount, leadsTo, kept, placesFrom, placesIn, sectionPlaces, placesOf, firstOf, lastOf, lastPlace}
 use Rattle.schema.specs.Steps.{rest}
 use Rattle.schema.specs.Answers.{foundIs}
 use Rattle.schema.specs.declared.lookup.Found.{Found}

@@ -10,8 +10,8 @@ use Rattle.numbers.specs.Result.{orElse}
 use Rattle.schema.specs.Sections.{Sections, section, end, broken, PSCH, sections}
 
 -- how many index entries of a PSCH section lie in it
-abbrev pub entryCount : Bytes → ℕ
-entryCount P = min (readAt 4 P 8) ((length P - 12) / 8)
+abbrev pub indexCount : Bytes → ℕ
+indexCount P = min (readAt 4 P 8) ((length P - 12) / 8)
 
 -- "An index entry is name and place in the section": the one at `at` has the name, and at its place stands the kind (0 a structure, 1 an enum)
 abbrev pub leadsTo : Bytes → ℕ → ℕ → ℕ → Bool
@@ -30,7 +30,7 @@ placesFrom P kind name (suc n) at = kept (leadsTo P kind name at) (readAt 4 P (a
 
 -- .. of a PSCH section
 abbrev pub placesIn : Bytes → ℕ → ℕ → List ℕ
-placesIn P kind name = placesFrom P kind name (entryCount P) 12
+placesIn P kind name = placesFrom P kind name (indexCount P) 12
 
 -- .. of a section; any other than PSCH has none
 unfoldable pub sectionPlaces : ℕ → Bytes → ℕ → ℕ → List ℕ

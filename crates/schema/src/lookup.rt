@@ -12,7 +12,7 @@ ghost use Rattle.numbers.specs.Words.{readAt};
 ghost use Rattle.numbers.specs.Result.{ok, given, isSome, orValue, mapOption};
 ghost use Rattle.schema.specs.Defs.{Schema, winning};
 ghost use Rattle.schema.specs.Psch.{schemaOf};
-ghost use Rattle.schema.specs.Index.{entryCount, leadsTo, placesIn, sectionPlaces, lastOf, lastPlace};
+ghost use Rattle.schema.specs.Index.{indexCount, leadsTo, placesIn, sectionPlaces, lastOf, lastPlace};
 ghost use Rattle.schema.specs.Answers.{foundIs, structFound, enumFound};
 
 // A place in the file, or none.
@@ -22,8 +22,8 @@ pub enum Found {
 }
 
 // How many entries of the index of a PSCH section lie in it.
-pub fn entry_count(p: &[u8]) -> usize
-    ensures { λ r. ⌜ r ≡ entryCount (now (p .entry)) ⌝ }
+pub fn index_count(p: &[u8]) -> usize
+    ensures { λ r. ⌜ r ≡ indexCount (now (p .entry)) ⌝ }
 {
     let n = read_u32(p, 8) as usize;
     let room = left(p, 12) / 8;
@@ -47,7 +47,7 @@ fn last_in(p: &[u8], from: usize, kind: u8, name: u32) -> Found
     requires { ⌜ from < 2 ^ 63 ⌝ }
     ensures { λ r. ⌜ foundIs r ≡ mapOption (from +_) (lastOf (placesIn (now (p .entry)) kind name)) ⌝ }
 {
-    let mut i = entry_count(p);
+    let mut i = index_count(p);
     while 0 < i {
         i -= 1;
         let at = 12 + 8 * i;

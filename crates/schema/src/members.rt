@@ -74,7 +74,7 @@ pub fn read_member(file: &[u8], place: usize, k: u32) -> Member
 }
 
 // How many entries the enum at a place has.
-pub fn entry_total(file: &[u8], place: usize) -> u32
+pub fn entry_count(file: &[u8], place: usize) -> u32
     ensures { λ r. ⌜ (r ≡ readAt 3 (now (file .entry)) (place + 1)) × (r < 2 ^ 24) ⌝ }
 {
     if file.len() < place {

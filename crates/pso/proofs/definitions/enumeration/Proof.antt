@@ -8,7 +8,7 @@ use Rattle.pso.proofs.definitions.enumeration.Tie as tie
 use Rattle.pso.proofs.definitions.enumeration.Reads as reads
 use Rattle.pso.proofs.definitions.enumeration.Lts as lts
 use Rattle.pso.proofs.definitions.first.Reads as first-reads
-use Rattle.schema.proofs.members.entry_total.Reads as entry-total-reads
+use Rattle.schema.proofs.members.entry_count.Reads as entry-count-reads
 
 -- src/definitions.rt:117:9
 first-requires : tie.Need-first-requires
@@ -23,8 +23,8 @@ enum-known-f : tie.Need-enum-known-f
 enum-known-f c = search needs
 
 -- src/definitions.rt:121:17
-entry-total-requires : tie.Need-entry-total-requires
-entry-total-requires c κs = search needs
+entry-count-requires : tie.Need-entry-count-requires
+entry-count-requires c κs = search needs
 
 -- src/definitions.rt:113:1
 returns : tie.Need-returns
@@ -34,9 +34,9 @@ returns c = enum-answer (now (c .before .before .before .before .args .file)) (c
 returns-2 : tie.Need-returns-2
 returns-2 c =
     let f = c .before .before .f .given in
-    enum-answer (now (c .before .before .before .before .before .before .args .file)) (c .before .before .before .before .before .before .args .name) (c .before .before .before .before .first .result) (c .before .before .before .before .first .ensures) (At (f .0 .0)) (f .1) _ (rw (c .entry-total .ensures .0))
+    enum-answer (now (c .before .before .before .before .before .before .args .file)) (c .before .before .before .before .before .before .args .name) (c .before .before .before .before .first .result) (c .before .before .before .before .first .ensures) (At (f .0 .0)) (f .1) _ (rw (c .entry-count .ensures .0))
 
 pub enumeration-spec : {M : Type 1} → statement M
 enumeration-spec =
     tie.close
-    (tie.spec first-requires enum-told enum-known-f entry-total-requires returns returns-2)
+    (tie.spec first-requires enum-told enum-known-f entry-count-requires returns returns-2)

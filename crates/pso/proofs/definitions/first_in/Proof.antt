@@ -4,14 +4,14 @@ use Prim.Native.Nat.{ℕ, _+_, _-_, _*_, _≤_}
 use denote.Ref.{now}
 use borrow.Author.Needs.{needs}
 use Rattle.numbers.specs.Result.{mapOption}
-use Rattle.schema.specs.Index.{entryCount}
+use Rattle.schema.specs.Index.{indexCount}
 use Rattle.pso.proofs.Leading.{Left, first-start, first-hit, first-miss, first-none}
 use Rattle.pso.proofs.definitions.first_in.Statement.{statement}
 use Rattle.pso.proofs.definitions.first_in.Tie as tie
 use Rattle.pso.proofs.definitions.first_in.Reads as reads
 use Rattle.pso.proofs.definitions.first_in.Lts as lts
 use Rattle.numbers.proofs.words.read_u32.Reads as read-u32-reads
-use Rattle.schema.proofs.lookup.entry_count.Reads as entry-count-reads
+use Rattle.schema.proofs.lookup.index_count.Reads as index-count-reads
 use Rattle.schema.proofs.lookup.leads_to.Reads as leads-to-reads
 
 abbrev Inv-loop : tie.InvT-loop
@@ -21,28 +21,28 @@ abbrev μ-loop : tie.MeasureT-loop
 μ-loop p from kind name n i₀ i = n - i
 
 -- src/definitions.rt:27:9
-entry-count-requires : tie.Need-entry-count-requires Inv-loop μ-loop
-entry-count-requires c κs = search needs
+index-count-requires : tie.Need-index-count-requires Inv-loop μ-loop
+index-count-requires c κs = search needs
 
 -- src/definitions.rt:29:5
 loop-holds : tie.Need-loop-holds Inv-loop μ-loop
-loop-holds c = (omega arith, first-start (now (c .before .before .args .p)) (c .before .before .args .kind) (c .before .before .args .name) (c .entry-count .result))
+loop-holds c = (omega arith, first-start (now (c .before .before .args .p)) (c .before .before .args .kind) (c .before .before .args .name) (c .index-count .result))
 
 -- src/definitions.rt:30:23
 mul-at : tie.Need-mul-at Inv-loop μ-loop
-mul-at c = omega (arith, c .before .before .entry-count .ensures)
+mul-at c = omega (arith, c .before .before .index-count .ensures)
 
 -- src/definitions.rt:30:18
 add-at : tie.Need-add-at Inv-loop μ-loop
-add-at c = omega (arith, c .before .before .entry-count .ensures)
+add-at c = omega (arith, c .before .before .index-count .ensures)
 
 -- src/definitions.rt:31:12
 leads-to-requires : tie.Need-leads-to-requires Inv-loop μ-loop
-leads-to-requires c κs = omega (arith, c .before .before .entry-count .ensures)
+leads-to-requires c κs = omega (arith, c .before .before .index-count .ensures)
 
 -- src/definitions.rt:32:37
 add-read-u32 : tie.Need-add-read-u32 Inv-loop μ-loop
-add-read-u32 c = omega (arith, c .before .before .before .before .entry-count .ensures)
+add-read-u32 c = omega (arith, c .before .before .before .before .index-count .ensures)
 
 -- src/definitions.rt:32:25
 read-u32-requires : tie.Need-read-u32-requires Inv-loop μ-loop
@@ -62,7 +62,7 @@ returns c =
     let a = c .before .before .before .before .before .before .before .args in
     let l = c .before .before .before .before .loop in
     ap (mapOption (a .from +_))
-    (rw (c .before .before .before .before .before .entry-count .ensures) at (first-hit (now (a .p)) (a .kind) (a .name) (c .before .before .before .before .before .entry-count .result) (l .i) (c .before .before .before .loop-test .taken) (l .inv .1) (c .before .before .leads-to .result) (c .before .before .leads-to .ensures)
+    (rw (c .before .before .before .before .before .index-count .ensures) at (first-hit (now (a .p)) (a .kind) (a .name) (c .before .before .before .before .before .index-count .result) (l .i) (c .before .before .before .loop-test .taken) (l .inv .1) (c .before .before .leads-to .result) (c .before .before .leads-to .ensures)
     (c .before .if1 .taken) (c .read-u32 .result) (c .read-u32 .ensures)))
 
 -- src/definitions.rt:35:9
@@ -78,14 +78,14 @@ loop-again : tie.Need-loop-again Inv-loop μ-loop
 loop-again c =
     let a = c .before .before .before .before .before .before .args in
     let l = c .before .before .before .loop in
-    (omega arith, first-miss (now (a .p)) (a .kind) (a .name) (c .before .before .before .before .entry-count .result) (l .i) (c .before .before .loop-test .taken) (l .inv .1) (c .before .leads-to .result) (c .before .leads-to .ensures) (c .if1 .left))
+    (omega arith, first-miss (now (a .p)) (a .kind) (a .name) (c .before .before .before .before .index-count .result) (l .i) (c .before .before .loop-test .taken) (l .inv .1) (c .before .leads-to .result) (c .before .leads-to .ensures) (c .if1 .left))
 
 -- src/definitions.rt:23:1
 returns-2 : tie.Need-returns-2 Inv-loop μ-loop
 returns-2 c =
     let a = c .before .before .before .before .args in
     let l = c .before .loop in
-    ap (mapOption (a .from +_)) (rw (c .before .before .entry-count .ensures) at (first-none (now (a .p)) (a .kind) (a .name) (c .before .before .entry-count .result) (l .i) (c .loop-test .left) (l .inv .1)))
+    ap (mapOption (a .from +_)) (rw (c .before .before .index-count .ensures) at (first-none (now (a .p)) (a .kind) (a .name) (c .before .before .index-count .result) (l .i) (c .loop-test .left) (l .inv .1)))
 
 pub first-in-spec : {M : Type 1} → statement M
 first-in-spec =
@@ -93,7 +93,7 @@ first-in-spec =
     (tie.spec
     Inv-loop
     μ-loop
-    entry-count-requires
+    index-count-requires
     loop-holds
     mul-at
     add-at

@@ -6,32 +6,32 @@ use native.Mathlib.Omega.{arith}
 use Prim.Native.Nat.{ℕ, _+_, _-_, _*_, _≤_}
 use denote.Ref.{now}
 use Rattle.numbers.specs.Result.{mapOption}
-use Rattle.schema.specs.Index.{entryCount, placesFrom}
+use Rattle.schema.specs.Index.{indexCount, placesFrom}
 use Rattle.schema.proofs.Seek.{none-behind, last-miss, last-hit, last-none}
 use Rattle.schema.proofs.lookup.last_in.Statement.{statement}
 use Rattle.schema.proofs.lookup.last_in.Tie as tie
 use Rattle.schema.proofs.lookup.last_in.Reads as reads
 use Rattle.schema.proofs.lookup.last_in.Lts as lts
 use Rattle.numbers.proofs.words.read_u32.Reads as read-u32-reads
-use Rattle.schema.proofs.lookup.entry_count.Reads as entry-count-reads
+use Rattle.schema.proofs.lookup.index_count.Reads as index-count-reads
 use Rattle.schema.proofs.lookup.leads_to.Reads as leads-to-reads
 
 abbrev Inv-loop : tie.InvT-loop
-Inv-loop p from kind name i₀ i = (i ≤ entryCount p) × (placesFrom p kind name (entryCount p - i) (12 + 8 * i) ≡ [])
+Inv-loop p from kind name i₀ i = (i ≤ indexCount p) × (placesFrom p kind name (indexCount p - i) (12 + 8 * i) ≡ [])
 
 abbrev μ-loop : tie.MeasureT-loop
 μ-loop p from kind name i₀ i = i
 
 -- src/lookup.rt:49:9
-entry-count-requires : tie.Need-entry-count-requires Inv-loop μ-loop
-entry-count-requires c κs = search needs
+index-count-requires : tie.Need-index-count-requires Inv-loop μ-loop
+index-count-requires c κs = search needs
 
 -- src/lookup.rt:50:5
 loop-holds : tie.Need-loop-holds Inv-loop μ-loop
 loop-holds c =
     let p = now (c .before .before .args .p) in
-    let e = c .entry-count .ensures in
-    (omega (arith, e), rw e (none-behind p (c .before .before .args .kind) (c .before .before .args .name) (entryCount p)))
+    let e = c .index-count .ensures in
+    (omega (arith, e), rw e (none-behind p (c .before .before .args .kind) (c .before .before .args .name) (indexCount p)))
 
 -- src/lookup.rt:51:9
 sub-i : tie.Need-sub-i Inv-loop μ-loop
@@ -71,7 +71,7 @@ returns c =
     let a = c .before .before .before .before .before .before .before .args in
     let l = c .before .before .before .before .loop in
     ap (mapOption (a .from +_))
-    (last-hit (now (a .p)) (a .kind) (a .name) (entryCount (now (a .p))) (l .i) (c .before .before .before .loop-test .taken) (l .inv .0) (l .inv .1) (c .before .before .leads-to .result) (c .before .before .leads-to .ensures)
+    (last-hit (now (a .p)) (a .kind) (a .name) (indexCount (now (a .p))) (l .i) (c .before .before .before .loop-test .taken) (l .inv .0) (l .inv .1) (c .before .before .leads-to .result) (c .before .before .leads-to .ensures)
     (c .before .if1 .taken) (c .read-u32 .result) (c .read-u32 .ensures))
 
 -- src/lookup.rt:50:5
@@ -83,14 +83,14 @@ loop-again : tie.Need-loop-again Inv-loop μ-loop
 loop-again c =
     let a = c .before .before .before .before .before .before .args in
     let l = c .before .before .before .loop in
-    (omega (arith, l .inv .0), last-miss (now (a .p)) (a .kind) (a .name) (entryCount (now (a .p))) (l .i) (c .before .before .loop-test .taken) (l .inv .0) (l .inv .1) (c .before .leads-to .result) (c .before .leads-to .ensures) (c .if1 .left))
+    (omega (arith, l .inv .0), last-miss (now (a .p)) (a .kind) (a .name) (indexCount (now (a .p))) (l .i) (c .before .before .loop-test .taken) (l .inv .0) (l .inv .1) (c .before .leads-to .result) (c .before .leads-to .ensures) (c .if1 .left))
 
 -- src/lookup.rt:45:1
 returns-2 : tie.Need-returns-2 Inv-loop μ-loop
 returns-2 c =
     let a = c .before .before .before .before .args in
     let l = c .before .loop in
-    ap (mapOption (a .from +_)) (last-none (now (a .p)) (a .kind) (a .name) (entryCount (now (a .p))) (l .i) (c .loop-test .left) (l .inv .1))
+    ap (mapOption (a .from +_)) (last-none (now (a .p)) (a .kind) (a .name) (indexCount (now (a .p))) (l .i) (c .loop-test .left) (l .inv .1))
 
 pub last-in-spec : {M : Type 1} → statement M
 last-in-spec =
@@ -98,7 +98,7 @@ last-in-spec =
     (tie.spec
     Inv-loop
     μ-loop
-    entry-count-requires
+    index-count-requires
     loop-holds
     sub-i
     mul-at

@@ -2,10 +2,10 @@ use native.Mathlib.Omega.{arith}
 use denote.Ref.{now}
 use Rattle.schema.proofs.Places.{total-none}
 use borrow.Author.Needs.{needs}
-use Rattle.schema.proofs.members.entry_total.Statement.{statement}
-use Rattle.schema.proofs.members.entry_total.Tie as tie
-use Rattle.schema.proofs.members.entry_total.Reads as reads
-use Rattle.schema.proofs.members.entry_total.Lts as lts
+use Rattle.schema.proofs.members.entry_count.Statement.{statement}
+use Rattle.schema.proofs.members.entry_count.Tie as tie
+use Rattle.schema.proofs.members.entry_count.Reads as reads
+use Rattle.schema.proofs.members.entry_count.Lts as lts
 use Rattle.numbers.proofs.words.read_u24.Reads as read-u24-reads
 
 -- src/members.rt:81:9
@@ -24,5 +24,5 @@ read-u24-requires c κs = search needs
 returns-2 : tie.Need-returns-2
 returns-2 c = search needs
 
-pub entry-total-spec : {M : Type 1} → statement M
-entry-total-spec = tie.close (tie.spec returns add-read-u24 read-u24-requires returns-2)
+pub entry-count-spec : {M : Type 1} → statement M
+entry-count-spec = tie.close (tie.spec returns add-read-u24 read-u24-requires returns-2)
