@@ -1,9 +1,9 @@
 -- The reader's definitions: those of the schema file, and the loops that find the first of a name. Assumes nothing.
 use mathlib.Core.Path.{_≡_, refl, sym, ap, ap₂, _∙_}
 use mathlib.Core.Bool.{Bool, true, false, cond, not, _||_}
-use mathlib.Core.List.{List, [], _∷_, _++_, map, append-assoc, append-nil}
+use mathlib.Core.List.{List, [], _++_, map, append-assoc, append-nil}
 use mathlib.Core.Option.{Option, none, some}
-use Prim.Native.Nat.{ℕ, zero, suc, _+_, _-_, _*_, _≤_, _<_}
+use Prim.Native.Nat.{ℕ, suc, _+_, _-_, _*_, _≤_, _<_}
 use native.Mathlib.Omega.{arith}
 use lib.Dec.{ltb, eqb}
 use lib.ListN.{length, take, drop}
@@ -13,7 +13,7 @@ use Rattle.numbers.specs.Result.{Result, ok, refused, andThen, mapResult, neede
 use Rattle.schema.specs.Sections.{Sections, section, end, broken, sections, PSIN, PMAP, PSCH}
 use Rattle.schema.specs.Defs.{leading}
 use Rattle.schema.specs.Psch.{Def, pschOf, sectionDefs, defsOf, schemaFrom, schemaOf}
-use Rattle.schema.specs.Index.{indexCount, leadsTo, kept, placesFrom, placesIn, sectionPlaces, placesOf, firstOf, firstPlace}
+use Rattle.schema.specs.Index.{leadsTo, kept, placesFrom, placesIn, sectionPlaces, placesOf, firstOf, firstPlace}
 use Rattle.schema.specs.Steps.{rest}
 use Rattle.schema.specs.Answers.{foundIs}
 use Rattle.schema.specs.declared.lookup.Found.{Found}

@@ -1,11 +1,11 @@
 // `parse_pso`: the sections in file order, and what they leave.
+use crate::blocks::Rows;
+use crate::blocks::read_rows;
 use numbers::words::is_name;
 use schema::check::Checked;
 use schema::check::check_psch;
 use schema::cursor::Cursor;
 use schema::cursor::Step;
-use crate::blocks::Rows;
-use crate::blocks::read_rows;
 ghost use mathlib.Core.Path.{_≡_};
 ghost use Prim.Native.Nat.{ℕ, _+_, _^_, _≤_, _<_};
 ghost use lib.ListN.{length};

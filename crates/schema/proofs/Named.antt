@@ -1,19 +1,18 @@
 -- The definitions of a name, in index order, are those at the places that the index entries of the name lead to. Assumes nothing.
 use mathlib.Core.Path.{_≡_, refl, sym, ap, ap₂, subst, _∙_}
-use mathlib.Core.Bool.{Bool, true, false, cond, _&&_, _||_, false≢true}
+use mathlib.Core.Bool.{Bool, true, false, cond, _&&_}
 use mathlib.Core.List.{List, [], _∷_, _++_, map, map-map}
-use Prim.Native.Nat.{ℕ, zero, suc, _+_, _-_, _*_, _/_, min, _≤_, _<_}
+use Prim.Native.Nat.{ℕ, zero, suc, _+_, _-_, _<_}
 use native.Mathlib.Omega.{arith}
 use lib.Dec.{ltb, eqb}
-use lib.ListN.{length, take, drop, length-drop}
-use lib.Seq.{length-take-le}
-use borrow.Author.Tests.{lt-ltb, ltb-false, eqb-true}
+use lib.ListN.{length, take, drop}
+use borrow.Author.Tests.{lt-ltb, eqb-true}
 use Rattle.numbers.specs.Words.{Bytes, readAt}
 use Rattle.numbers.specs.Result.{Result, ok, refused, andThen, mapResult}
 use Rattle.schema.specs.Sections.{Sections, section, end, broken, PSCH, lengthAt, overruns, sectionsFrom, sections}
-use Rattle.schema.specs.Defs.{Schema, StructDef, EnumDef, structName, enumName}
+use Rattle.schema.specs.Defs.{Schema, structName, enumName}
 use Rattle.schema.specs.Psch.{Def, structure, enumeration, structHere, enumHere, defAt, defsFrom, pschOf, sectionDefs, defsOf, schemaFrom, schemaOf}
-use Rattle.schema.specs.Index.{indexCount, leadsTo, kept, placesFrom, placesIn, sectionPlaces, placesOf}
+use Rattle.schema.specs.Index.{indexCount, kept, placesFrom, placesIn, sectionPlaces, placesOf}
 use Rattle.schema.specs.Steps.{defHere}
 use Rattle.schema.proofs.Walk.{whole-part}
 use Rattle.schema.proofs.Judge.{Read, def-read}

@@ -1,17 +1,17 @@
 -- The loops that look a name up: over the index entries of a section, and over the sections of a file. Assumes nothing.
 use mathlib.Core.Path.{_≡_, refl, sym, ap, ap₂, _∙_}
-use mathlib.Core.Bool.{Bool, true, false, cond, _&&_, _||_}
+use mathlib.Core.Bool.{Bool, true, false, _||_}
 use mathlib.Core.List.{List, [], _∷_, _++_, map}
 use mathlib.Core.Option.{Option, none, some}
 use Prim.Native.Nat.{ℕ, zero, suc, _+_, _-_, _*_, _≤_, _<_}
 use native.Mathlib.Nat.{zero-add, suc-add}
 use native.Mathlib.Omega.{arith}
-use lib.Dec.{ltb, eqb}
+use lib.Dec.{eqb}
 use lib.ListN.{length, take, drop}
 use Rattle.numbers.specs.Words.{Bytes, readAt}
 use Rattle.numbers.specs.Result.{given, isSome, orElse, orValue, mapOption}
 use Rattle.schema.specs.Sections.{Sections, section, end, broken, sections, PSCH}
-use Rattle.schema.specs.Index.{indexCount, leadsTo, kept, placesFrom, placesIn, sectionPlaces, placesOf, firstOf, lastOf, lastPlace}
+use Rattle.schema.specs.Index.{leadsTo, kept, placesFrom, placesIn, sectionPlaces, placesOf, lastOf, lastPlace}
 use Rattle.schema.specs.Steps.{rest}
 use Rattle.schema.specs.Answers.{foundIs}
 use Rattle.schema.specs.declared.lookup.Found.{Found}

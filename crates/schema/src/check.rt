@@ -1,11 +1,11 @@
 // The definitions of a file's PSCH sections are whole: refusals 4, 5 and 6, and the number of index entries.
+use crate::cursor::Cursor;
+use crate::cursor::Step;
 use numbers::words::is_name;
 use numbers::words::read_u8;
 use numbers::words::read_u16;
 use numbers::words::read_u24;
 use numbers::words::read_u32;
-use crate::cursor::Cursor;
-use crate::cursor::Step;
 ghost use mathlib.Core.Path.{_≡_};
 ghost use Prim.Native.Nat.{ℕ, _+_, _^_, _≤_, _<_};
 ghost use lib.ListN.{length, take, drop};

@@ -1,10 +1,10 @@
 // Look-up by name: of the definitions of a kind and a name, the one that counts when building is the last.
+use crate::cursor::Cursor;
+use crate::cursor::Step;
 use numbers::words::is_name;
 use numbers::words::left;
 use numbers::words::read_u8;
 use numbers::words::read_u32;
-use crate::cursor::Cursor;
-use crate::cursor::Step;
 ghost use mathlib.Core.Path.{_≡_};
 ghost use Prim.Native.Nat.{ℕ, _+_, _^_, _≤_, _<_};
 ghost use lib.ListN.{length, take, drop};

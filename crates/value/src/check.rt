@@ -6,7 +6,6 @@ ghost use lib.Dec.{eqb};
 ghost use Rattle.value.specs.Rows;
 ghost use Rattle.value.specs.Layout;
 ghost use Rattle.value.specs.Answer;
-use numbers::words::read_u8;
 use crate::Row;
 use crate::child_count;
 use crate::first_child;
@@ -15,6 +14,7 @@ use crate::read_row;
 use crate::row_count;
 use crate::text_area;
 use crate::wide;
+use numbers::words::read_u8;
 
 // The answer of the check: refusals 1, 2 and 3, or none.
 pub enum Sheet {
