@@ -71,6 +71,7 @@ fn last_of(file: &[u8], place: usize, len: usize, kind: u8, name: u32) -> Found
     last_in(&file[place..stop], place, kind, name)
 }
 
+// What the loop over sections carries, a test and a place, as an answer.
 fn found_at(hit: bool, at: usize) -> Found
     ensures { λ r. ⌜ foundIs r ≡ given hit at ⌝ }
 {
@@ -80,6 +81,7 @@ fn found_at(hit: bool, at: usize) -> Found
     Found::Nothing
 }
 
+// Whether there is a place.
 fn is_found(f: Found) -> bool
     ensures { λ r. ⌜ r ≡ isSome (foundIs f) ⌝ }
 {
@@ -89,6 +91,7 @@ fn is_found(f: Found) -> bool
     }
 }
 
+// The place, or another where there is none.
 fn place_or(f: Found, other: usize) -> usize
     ensures { λ r. ⌜ r ≡ orValue (foundIs f) other ⌝ }
 {
