@@ -151,11 +151,7 @@ module _ (T : Bytes) where
             let c = suc (suc (suc (suc m))) in
             rw (lt-ltb 0 c (omega arith), lt-ltb 1 c (omega arith), lt-ltb 2 c (omega arith), lt-ltb 3 c (omega arith), e0, e1, e2, e3) (sym (filled-four f (suc f) (suc (suc f)) (suc (suc (suc f)))))
 
-  -- what is given of the four: all, or too few
-  enough : (m : Fit (List ℕ)) (v : Vector) (t : Bool) → t ≡ true → Answer.vecIs v ≡ fitThen m (λ xs. fits (take 4 (xs ++ replicate 4 0)))
-      → Answer.vecIs v ≡ fitThen m (λ xs. cond t (fits (take 4 (xs ++ replicate 4 0))) unfit)
-  enough m v t e p = rw e p
-
+  -- too few
   short : (m : Fit (List ℕ)) (v : Vector) → Answer.vecIs v ≡ fitThen m (λ xs. fits (take 4 (xs ++ replicate 4 0))) → Answer.vecIs (Answer.tooFew v) ≡ fitThen m (λ xs. unfit)
   short (fits xs) (Vec.Fits a b c d) p = refl
   short (fits xs) Vec.Unfit p = refl

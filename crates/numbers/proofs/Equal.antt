@@ -8,10 +8,12 @@ use native.Mathlib.Omega.{arith}
 use borrow.Author.Tests.{eq-eqb, ne-eqb, eqb-true, eqb-false}
 use lib.Dec.{eqb}
 use lib.ListN.{length, getD, take, drop, length-take, length-drop, drop-of-length-le}
-use lib.Seq.{drop-cons}
-use Rattle.numbers.specs.Words.{Bytes, number, readAt, sameBytes, nameBytes, Named}
+use mathlib.Core.Logic.{⊎-elim}
+use lib.Seq.{drop-cons, length-take-le}
+use Rattle.numbers.specs.Words.{Bytes, number, readAt, bytesOf, sameBytes, nameBytes, Named}
 use Rattle.numbers.proofs.Parts.{take-cons, read-fewer}
-use Rattle.numbers.proofs.Bytes.{Octets, octets, read-below}
+use Rattle.numbers.proofs.Bytes.{Octets, octets, octets-take, octets-drop, below, read-below, bytes-number}
+use Rattle.numbers.proofs.Units.{split}
 
 -- of two lengths, they differ
 pub same-lengths : (a b : Bytes) → (length a ≡ length b → ⊥) → sameBytes a b ≡ false
@@ -106,3 +108,17 @@ module _ (n l : Bytes) (at : ℕ) (o : (i : ℕ) → getD l i 0 < 256) where
       in-turn true true false v = refl
       in-turn true false u v = refl
       in-turn false t u v = refl
+
+-- a name's bytes stand there just where its number does
+pub name-number : (n l : Bytes) (at : ℕ) → Octets l → Octets (nameBytes n) → 0 < getD n 0 0 → sameBytes (take 4 (drop at l)) (nameBytes n) ≡ eqb (readAt 4 l at) (number 0 (nameBytes n))
+unfolding readAt
+name-number n l at o p z = ⊎-elim short long (split (length l) (at + 4)) where
+  short : length l < at + 4 → sameBytes (take 4 (drop at l)) (nameBytes n) ≡ eqb (readAt 4 l at) (number 0 (nameBytes n))
+  short h = let s = named-short n l at (below l o) h in sym (s .bytes) ∙ s .number z
+
+  long : at + 4 ≤ length l → sameBytes (take 4 (drop at l)) (nameBytes n) ≡ eqb (readAt 4 l at) (number 0 (nameBytes n))
+  long h = same-number (take 4 (drop at l)) (nameBytes n) (octets-take 4 (drop at l) (octets-drop at l o)) p (length-take-le 4 (drop at l) (omega (arith, length-drop at l)))
+
+-- a name is the four bytes of its number
+pub name-bytes : (n : Bytes) → Octets (nameBytes n) → bytesOf 4 (number 0 (nameBytes n)) ≡ nameBytes n
+name-bytes n o = bytes-number (nameBytes n) o

@@ -1,0 +1,17 @@
+-- `leaves::leaf_enum_value` meets its contract. Assumes nothing.
+use mathlib.Core.Path.{ap, _∙_}
+use borrow.Author.Needs.{needs}
+use Rattle.schema.specs.Psch.{entriesAt}
+use Rattle.coerce.specs.Answer.{bitsIs}
+use Rattle.coerce.specs.Names.{enumValue}
+use Rattle.value.specs.Rows.{Row}
+use Rattle.leaves.specs.Codes
+use Rattle.leaves.proofs.leaf_enum_value.Statement.{statement}
+use Rattle.leaves.proofs.leaf_enum_value.Tie as tie
+
+pub leaf-enum-value-spec : {M : Type 1} → statement M
+leaf-enum-value-spec =
+    tie.close
+    (tie.spec
+    (λ c κs. search needs) (λ c κs. search needs) (λ c κs. search needs)
+    (λ c. let a = c .before .before .before .before .before .args in c .of-bits .ensures ∙ ap Codes.ofBits (c .before .enum-value .ensures ∙ ap (λ (v : Row). bitsIs (enumValue (a .sheet .now) (entriesAt (a .schema .now) (a .n) (a .at)) v)) (c .before .before .read-row .ensures))))

@@ -1,0 +1,2 @@
+-- Answers as codes with values.
+pub mod Codes
