@@ -41,6 +41,7 @@ pub record View : Type 0 where
   pub root : Option ℕ
   pub blocks : ℕ
 
+-- .. of what the definition knows
 abbrev pub view : Seen → View
 view t = record { data′ = t .data′; root = t .root; blocks = length (t .blocks) }
 

@@ -38,7 +38,7 @@ map-append : {A B : Type 0} (f : A → B) (k l : List A) → map f (k ++ l) ≡ 
 map-append f [] l = refl
 map-append f (a ∷ k) l = ap (f a ∷_) (map-append f k l)
 
-kept-append : {A : Type 0} (b : Bool) (a : A) (k l : List A) → kept b a k ++ l ≡ kept b a (k ++ l)
+pub kept-append : {A : Type 0} (b : Bool) (a : A) (k l : List A) → kept b a k ++ l ≡ kept b a (k ++ l)
 kept-append true a k l = refl
 kept-append false a k l = refl
 

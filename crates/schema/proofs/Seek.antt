@@ -13,17 +13,12 @@ use Rattle.numbers.specs.Result.{given, isSome, orElse, orValue, mapOption}
 use Rattle.schema.specs.Sections.{Sections, section, end, broken, sections, PSCH}
 use Rattle.schema.specs.Index.{leadsTo, kept, placesFrom, placesIn, sectionPlaces, placesOf, lastOf, lastPlace}
 use Rattle.schema.specs.Steps.{rest}
-use Rattle.schema.specs.Answers.{foundIs}
-use Rattle.schema.specs.declared.lookup.Found.{Found}
 use Rattle.schema.proofs.Walk.{rest-all, Onward}
+use Rattle.schema.proofs.Named.{kept-append}
 use Rattle.schema.proofs.Finds.{or-or, or-none, last-map, last-append}
 
 -- ---- the index entries of a section, from the last on
 module _ (P : Bytes) (kind name : ℕ) where
-  kept-append : (b : Bool) (q : ℕ) (k l : List ℕ) → kept b q (k ++ l) ≡ kept b q k ++ l
-  kept-append true q k l = refl
-  kept-append false q k l = refl
-
   -- i entries, and the n behind them
   split : (i n at : ℕ) → placesFrom P kind name (i + n) at ≡ placesFrom P kind name i at ++ placesFrom P kind name n (at + 8 * i)
   unfolding placesFrom
@@ -34,7 +29,7 @@ module _ (P : Bytes) (kind name : ℕ) where
       let e : at + 8 + 8 * i ≡ at + 8 * suc i = omega arith in
       let q = readAt 4 P (at + 4) in
       ap (λ (x : ℕ). placesFrom P kind name x at) (suc-add i n) ∙ ap (kept (leadsTo P kind name at) q) (split i n (at + 8))
-      ∙ kept-append (leadsTo P kind name at) q (placesFrom P kind name i (at + 8)) (placesFrom P kind name n (at + 8 + 8 * i))
+      ∙ sym (kept-append (leadsTo P kind name at) q (placesFrom P kind name i (at + 8)) (placesFrom P kind name n (at + 8 + 8 * i)))
       ∙ ap (λ (x : ℕ). kept (leadsTo P kind name at) q (placesFrom P kind name i (at + 8)) ++ placesFrom P kind name n x) e
 
   pub none-behind : (n : ℕ) → placesFrom P kind name (n - n) (12 + 8 * n) ≡ []
@@ -76,19 +71,16 @@ module _ (P : Bytes) (kind name : ℕ) where
 
 -- ---- a section
 module _ (F : Bytes) (place len kind name : ℕ) (t : Bool) (e : t ≡ eqb (readAt 4 F place) PSCH) where
-  abbrev part : Bytes
-  part = take len (drop place F)
+  abbrev here : List ℕ
+  here = sectionPlaces (readAt 4 F place) (take len (drop place F)) kind name
 
-  abbrev here : Option ℕ
-  here = mapOption (place +_) (lastOf (sectionPlaces (readAt 4 F place) part kind name))
-
-  pub last-other : t ≡ false → none ≡ here
-  unfolding sectionPlaces lastOf
-  last-other f = rw (← e, f, sectionPlaces)
-
-  pub last-psch : t ≡ true → (p : Bytes) → p ≡ part → (r : Found) → foundIs r ≡ mapOption (place +_) (lastOf (placesIn p kind name)) → foundIs r ≡ here
+  pub other-section : t ≡ false → [] ≡ here
   unfolding sectionPlaces
-  last-psch f p q r g = rw (← e, f, sectionPlaces) (g ∙ ap (λ (x : Bytes). mapOption (place +_) (lastOf (placesIn x kind name))) q)
+  other-section f = rw (← e, f, sectionPlaces)
+
+  pub psch-section : t ≡ true → (p : Bytes) → p ≡ take len (drop place F) → placesIn p kind name ≡ here
+  unfolding sectionPlaces
+  psch-section f p q = rw (← e, f, sectionPlaces) (ap (λ (x : Bytes). placesIn x kind name) q)
 
 -- a find behind another
 pub later : (o : Option ℕ) (hit : Bool) (at : ℕ) → given (hit || isSome o) (orValue o at) ≡ orElse o (given hit at)
