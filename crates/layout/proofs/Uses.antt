@@ -71,7 +71,7 @@ contains-insert x n l = go (contains n l) refl (eqb n x) refl
 abbrev pub Once : List ℕ → Type 0
 Once l = (x : ℕ) → count x l ≡ tally (contains x l)
 
-once-insert : (n : ℕ) (l : List ℕ) → Once l → Once (insert n l)
+pub once-insert : (n : ℕ) (l : List ℕ) → Once l → Once (insert n l)
 unfolding insert
 once-insert n l h x = go (contains n l) refl
   where
@@ -92,7 +92,7 @@ pub record Known (L : Lookup) (c : Core) : Type 0 where
   pub structsKnown : (x : ℕ) → contains x (c .structs) ≡ true → isSome (L .struct x) ≡ true
   pub enumsKnown : (x : ℕ) → contains x (c .enums) ≡ true → isSome (L .enum x) ≡ true
 
-known-insert : {A : Type 0} (f : ℕ → Option A) (n : ℕ) (l : List ℕ) → isSome (f n) ≡ true → ((x : ℕ) → contains x l ≡ true → isSome (f x) ≡ true)
+pub known-insert : {A : Type 0} (f : ℕ → Option A) (n : ℕ) (l : List ℕ) → isSome (f n) ≡ true → ((x : ℕ) → contains x l ≡ true → isSome (f x) ≡ true)
     → (x : ℕ) → contains x (insert n l) ≡ true → isSome (f x) ≡ true
 known-insert f n l k h x u = or-case (contains x l) (eqb n x) (sym (contains-insert x n l) ∙ u) (h x) (λ v. rw (← (eqb-true n x v)) k)
 

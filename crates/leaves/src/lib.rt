@@ -266,7 +266,7 @@ pub extern "C" fn leaf_enum_value(
     n: usize,
     r: usize,
 ) -> Small
-    requires { ⌜ (at < 2 ^ 40) × (n < 2 ^ 40) ⌝ }
+    requires { ⌜ (at < 2 ^ 63) × (n < 2 ^ 24) ⌝ }
     ensures { λ v. ⌜ v ≡ Codes.ofBits (bitsIs (enumValue (now (sheet .entry)) (entriesAt (now (schema .entry)) n at) (row (now (sheet .entry)) r))) ⌝ }
 {
     of_bits(enum_value(sheet, schema, at, n, read_row(sheet, r)))
@@ -280,7 +280,7 @@ pub extern "C" fn leaf_flags_bits(
     n: usize,
     r: usize,
 ) -> Small
-    requires { ⌜ (at < 2 ^ 40) × (n < 2 ^ 40) ⌝ }
+    requires { ⌜ (at < 2 ^ 63) × (n < 2 ^ 24) ⌝ }
     ensures { λ v. ⌜ v ≡ Codes.ofBits (bitsIs (flagsBits 64 (now (sheet .entry)) (entriesAt (now (schema .entry)) n at) (row (now (sheet .entry)) r))) ⌝ }
 {
     of_bits(flags_bits(sheet, schema, at, n, 64, read_row(sheet, r)))

@@ -1,0 +1,138 @@
+-- The contracts' parts, with names.
+use mathlib.Core.Path.{_≡_}
+use Prim.Native.Nat.{ℕ, _+_, _-_, _*_, _≤_, _<_}
+use mathlib.Core.Bool.{Bool, true, false, cond}
+use mathlib.Core.List.{List, [], _∷_, _++_}
+use lib.Dec.{ltb}
+use lib.ListN.{length}
+use Rattle.numbers.specs.Words.{Bytes, bytesOf, over}
+use Rattle.numbers.proofs.Bytes.{Stands}
+use Rattle.schema.specs.Defs.{Schema}
+use Rattle.layout.specs.Demand3.{Every}
+use Rattle.layout.specs.State.{Block, Remark, State, withRemark, contains, spot, addItem, Out, done, stop}
+use Rattle.area.specs.declared.Round.{Round}
+use Rattle.area.specs.declared.Progress.{Progress}
+use Rattle.area.specs.declared.Spot.{Spot}
+use Rattle.area.specs.declared.Laid.{Laid}
+use Rattle.area.specs.declared.Laid.the-variants.{At, Refused}
+use Rattle.area.specs.Rows.{namesIn}
+use Rattle.area.specs.Area.{rowsOf, itemsAt, stackAt, Small, Rep}
+
+-- the numbers are in order: every segment has room for all that is charged
+pub record Safe (R : Round) (n : ℕ) (p : Progress) : Type 0 where
+  pub small : R .cap ≤ 4194304
+  pub room : itemsAt R + 4 * R .cap ≤ n
+  pub from : itemsAt R ≤ p .end
+  pub items : p .end ≤ itemsAt R + p .charge
+  pub low : stackAt R ≤ p .top
+  pub stack : p .top ≤ stackAt R + p .charge
+  pub within : p .charge ≤ R .cap
+  pub blocks : p .blocks ≤ 4095
+  pub rows : p .rows ≤ 1024
+  pub structs : p .structs ≤ R .entries
+  pub enums : p .enums ≤ R .entries
+  pub next : p .next ≤ p .seen
+  pub seen : p .seen ≤ 65536 * p .charge
+
+-- there is charge for a further remark of each of 65,535 members
+abbrev pub Open : Progress → Type 0
+Open p = p .seen + 65536 ≤ 65536 * p .charge
+
+-- what a step did to the numbers: it pushed `push` bytes, charged `cost` at least besides what it laid, and met `notes` remarks besides those paid for
+pub record Grown (p : Progress) (cost push notes : ℕ) (q : Progress) : Type 0 where
+  pub more : p .end ≤ q .end
+  pub paid : q .end + p .charge + cost ≤ p .end + q .charge
+  pub top : q .top ≡ p .top + push
+  pub met : q .seen + 65536 * p .charge ≤ p .seen + notes + 65536 * q .charge
+
+-- a remark r is met
+pub record Notes (R : Round) (n : ℕ) (p : Progress) (w : Bytes) (r : Remark) (q : Progress) (w' : Bytes) : Type 0 where
+  pub blocks : q .blocks ≡ p .blocks
+  pub structs : q .structs ≡ p .structs
+  pub enums : q .enums ≡ p .enums
+  pub end : q .end ≡ p .end
+  pub top : q .top ≡ p .top
+  pub charge : q .charge ≡ p .charge
+  pub seen : q .seen ≡ p .seen + 1
+  pub next : q .next ≤ q .seen
+  pub rows : q .rows ≤ 1024
+  pub says : (S : Schema) (s : State) (σ : Bytes) → Rep S R n s σ p w → Rep S R n (withRemark r s) σ q w'
+
+-- a name is put behind the `count` at `at`, in a room for `room`, unless it is among them
+pub record Inserts (at count room name : ℕ) (w : Bytes) (r : ℕ) (w' : Bytes) : Type 0 where
+  pub few : r ≤ room
+  pub there : contains name (namesIn w at count) ≡ true → (r ≡ count) × (w' ≡ w)
+  pub new : contains name (namesIn w at count) ≡ false → count < room → (r ≡ count + 1) × (w' ≡ over w (at + 4 * count) (bytesOf 4 name))
+
+-- a definition is used: `to` is the state after it
+pub record Marks (R : Round) (n : ℕ) (p : Progress) (w : Bytes) (known : Schema → Bool) (to : State → State) (q : Progress) (w' : Bytes) : Type 0 where
+  pub blocks : q .blocks ≡ p .blocks
+  pub rows : q .rows ≡ p .rows
+  pub end : q .end ≡ p .end
+  pub top : q .top ≡ p .top
+  pub charge : q .charge ≡ p .charge
+  pub seen : q .seen ≡ p .seen
+  pub next : q .next ≡ p .next
+  pub structs : q .structs ≤ R .entries
+  pub enums : q .enums ≤ R .entries
+  pub says : (S : Schema) (s : State) (σ : Bytes) → known S ≡ true → Rep S R n s σ p w → Rep S R n (to s) σ q w'
+
+-- a refusal: some state and some stack stand in the area, and the remarks met are es
+pub record Stopped (S : Schema) (R : Round) (n : ℕ) (es : List Remark) (p : Progress) (w : Bytes) : Type 0 where
+  pub state : State
+  pub stack : Bytes
+  pub rep : Rep S R n state stack p w
+  pub met : state .events ≡ es
+
+-- what a function answers: something, or a refusal's number
+pub data Ans (X : Type 0) : Type 0 where
+  gives : X → Progress → Ans X
+  refuses : ℕ → Progress → Ans X
+
+-- the code's answer and the area that it left are the definition's; what it made gives the stack
+abbrev pub Meets : {A X : Type 0} → Schema → Round → ℕ → (A → Bytes) → (A → X → Type 0) → Out A → Ans X → Bytes → Type 0
+Meets S R n stack fits (done a s) (gives x p) w = Rep S R n s (stack a) p w × fits a x
+Meets S R n stack fits (done a s) (refuses m p) w = ⊥
+Meets S R n stack fits (stop m es) (gives x p) w = ⊥
+Meets S R n stack fits (stop m es) (refuses k p) w = (k ≡ m) × Stopped S R n es p w
+
+-- the first block of the name with room for `need` bytes, of n blocks; else behind the last
+pub record Finds (w : Bytes) (n name need : ℕ) (r : Spot) : Type 0 where
+  pub before : r .before ≤ n
+  pub start : r .start ≤ 0x100000
+  pub says : (bs : List Block) → length bs ≡ n → Every Small bs → Stands w 0 (rowsOf bs) → (r .before ≡ spot name need bs .before) × (r .start ≡ spot name need bs .start)
+
+-- how many blocks there are with an item in the block behind k others
+abbrev pub blocksWith : ℕ → ℕ → ℕ
+blocksWith n k = cond (ltb k n) n (k + 1)
+
+-- an item's pointer, or refusal 10
+abbrev pub laidIs : Laid → Ans ℕ
+laidIs (At x p) = gives x p
+laidIs (Refused k p) = refuses k p
+
+-- what laying an item of `len` bytes did to the numbers, the stack's top being `to` then
+pub record Larger (p : Progress) (len to : ℕ) (q : Progress) : Type 0 where
+  pub blocks : q .blocks ≤ 4095
+  pub rows : q .rows ≡ p .rows
+  pub structs : q .structs ≡ p .structs
+  pub enums : q .enums ≡ p .enums
+  pub end : q .end ≡ p .end + (16 + len)
+  pub top : q .top ≡ to
+  pub charge : q .charge ≡ p .charge
+  pub seen : q .seen ≡ p .seen
+  pub next : q .next ≡ p .next
+
+abbrev pub Enlarged : Progress → ℕ → ℕ → Ans ℕ → Type 0
+Enlarged p len to (gives x q) = Larger p len to q
+Enlarged p len to (refuses k q) = (k ≡ 10) × (q ≡ p)
+
+-- the top `len` bytes of the stack are laid as an item of the name
+pub record Lays (R : Round) (n : ℕ) (p : Progress) (w : Bytes) (name len : ℕ) (r : Ans ℕ) (w' : Bytes) : Type 0 where
+  pub grew : Enlarged p len (p .top - len) r
+  pub says : (S : Schema) (s : State) (σ b : Bytes) → length b ≡ len → Rep S R n s (σ ++ b) p w → Meets S R n (λ _. σ) (λ a x. a ≡ x) (addItem name b s) r w'
+
+-- bytes are laid as an item of block 1, with a closing zero byte
+pub record LaysText (R : Round) (n : ℕ) (p : Progress) (w : Bytes) (t : Bytes) (r : Ans ℕ) (w' : Bytes) : Type 0 where
+  pub grew : Enlarged p (length t + 1) (p .top) r
+  pub says : (S : Schema) (s : State) (σ : Bytes) → Rep S R n s σ p w → Meets S R n (λ _. σ) (λ a x. a ≡ x) (addItem 1 (t ++ (0 ∷ [])) s) r w'
