@@ -57,10 +57,11 @@ ItemsTile at (i ∷ is) end = (i .start ≡ at) × ItemsTile (at + length (i .by
 abbrev pub pointerOf : Item → ℕ
 pointerOf i = pointerTo (i .block) (i .start)
 
--- the block number and the start that a pointer says
+-- the block number that a pointer says
 abbrev pub pointerBlock : ℕ → ℕ
 pointerBlock p = p % 4096
 
+-- the start that a pointer says
 abbrev pub pointerStart : ℕ → ℕ
 pointerStart p = p / 4096
 
