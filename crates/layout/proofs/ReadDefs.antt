@@ -107,7 +107,7 @@ module _ (d : StructDef) where
   abbrev counted : Bytes
   counted = bytesOf 2 (length (d .members)) ++ (sized ++ ms)
 
-  struct-length : length (structBytes d) ≡ 12 + 12 * length (d .members)
+  pub struct-length : length (structBytes d) ≡ 12 + 12 * length (d .members)
   unfolding structBytes
   struct-length =
       omega (
@@ -163,7 +163,7 @@ module _ (d : EnumDef) where
   abbrev es : Bytes
   es = joined (map entryBytes (d .entries))
 
-  enum-length : length (enumBytes d) ≡ 4 + 8 * length (d .entries)
+  pub enum-length : length (enumBytes d) ≡ 4 + 8 * length (d .entries)
   unfolding enumBytes
   enum-length =
       omega (
@@ -249,7 +249,7 @@ defs-back P (d ∷ ds) i at f h s t =
     word : (k j : ℕ) → k < 2 → i + 4 * k ≡ j → readAt 4 P j ≡ getD ws k 0
     word k j g q = word-at P i ws (name-fits d (f .0), (low, tt)) (left P (words ws) (indexOf (at + length (r .1)) rs) i s) k j g q
 
-index-length : (at : ℕ) (rs : Records) → length (indexOf at rs) ≡ 8 * length rs
+pub index-length : (at : ℕ) (rs : Records) → length (indexOf at rs) ≡ 8 * length rs
 unfolding indexOf
 index-length at [] = refl
 index-length at (r ∷ rs) =
