@@ -5,14 +5,14 @@ use area::Round;
 use area::write_two;
 use numbers::words::read_u32;
 use numbers::words::write;
+use numbers::words::write_u32;
 use schema::lookup::Found;
 use schema::lookup::find_enum;
 use schema::lookup::find_structure;
 use schema::members::entry_count;
 use schema::members::read_head;
 ghost use mathlib.Core.Path.{_≡_};
-ghost use mathlib.Core.Bool.{false, true};
-ghost use mathlib.Core.List.{[], _∷_, _++_};
+ghost use mathlib.Core.List.{[], _∷_};
 ghost use Prim.Native.Nat.{_+_, _*_, _^_, _≤_, _<_};
 ghost use lib.ListN.{length};
 ghost use Rattle.numbers.specs.Words.{words, over};
@@ -24,6 +24,7 @@ ghost use Rattle.layout.proofs.ReadDefs.{bodies};
 ghost use Rattle.area.specs.Rows.{namesIn};
 ghost use Rattle.area.specs.Posts.{Safe};
 ghost use Rattle.assemble.specs.Used.{kindOf, definitionAt, bodyOf, recordsFor, sizeOf, Lies, Stored, Counts};
+ghost use Rattle.assemble.specs.Packed.{usedRecords, AllStored};
 
 // The place in the schema file of the structure or the enum that a name stands for.
 fn find(schema: &[u8], enums: bool, name: u32) -> Found
@@ -142,4 +143,29 @@ fn put_records(
         k += 1;
     }
     at
+}
+
+// PSCH, from the first byte of `out` on: the head is written last, when the size is known.
+pub fn put_schema(schema: &[u8], work: &[u8], round: Round, p: Progress, out: &mut [u8])
+    requires { ⌜ Safe round (length (now work)) p ⌝ }
+    requires { ⌜ AllStored (now schema) round p (now work) ⌝ }
+    requires { ⌜ (length (pschBytes (usedRecords (now schema) round p (now work))) ≤ length (now out)) × (length (pschBytes (usedRecords (now schema) round p (now work))) < 256 ^ 4) ⌝ }
+    ensures { λ _. ⌜ now (out .exit) ≡ over (now (out .entry)) 0 (pschBytes (usedRecords (now (schema .entry)) round p (now (work .entry)))) ⌝ }
+{
+    let structs = p.structs;
+    let n = structs + p.enums;
+    let to = 12 + 8 * n;
+    let mid = put_records(schema, work, 65536, structs, false, out, 12, to);
+    let end = put_records(
+        schema,
+        work,
+        65536 + 4 * round.entries,
+        p.enums,
+        true,
+        out,
+        12 + 8 * structs,
+        mid,
+    );
+    write_two(out, 0, 0x50534348, end as u32);
+    write_u32(out, 8, n as u32);
 }
