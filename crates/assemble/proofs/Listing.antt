@@ -76,6 +76,9 @@ unfolding namesIn
 length-names w at zero = refl
 length-names w at (suc n) = ap suc (length-names w (at + 4) n)
 
+pub count-records : (F w : Bytes) (e : Bool) (at n : ℕ) → length (recordsFor F e (namesIn w at n)) ≡ n
+count-records F w e at n = length-map (namesIn w at n) (λ m. (m, bodyOf F e m)) ∙ length-names w at n
+
 -- the loops: k of `count` names are done
 module _ (F w : Bytes) (e : Bool) (names count : ℕ) where
   abbrev leftOf : ℕ → List ℕ
@@ -99,7 +102,7 @@ module _ (F w : Bytes) (e : Bool) (names count : ℕ) where
   names-done k h = let a : count - k ≡ 0 = omega arith in ap (λ (n : ℕ). namesIn w (names + 4 * k) n) a
 
   count-left : (k : ℕ) → length (rest k) ≡ count - k
-  count-left k = length-map (leftOf k) (λ n. (n, bodyOf F e n)) ∙ length-names w (names + 4 * k) (count - k)
+  count-left k = count-records F w e (names + 4 * k) (count - k)
 
   names-first : (k : ℕ) → k ≡ 0 → leftOf k ≡ namesIn w names count
   names-first k q = let a : names + 4 * k ≡ names = omega arith in let b : count - k ≡ count = omega arith in ap₂ (λ (x y : ℕ). namesIn w x y) a b

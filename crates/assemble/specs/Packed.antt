@@ -4,7 +4,7 @@ use mathlib.Core.Path.{_≡_}
 use mathlib.Core.Bool.{true, false}
 use mathlib.Core.List.{_++_}
 use lib.ListN.{length}
-use Rattle.numbers.specs.Words.{Bytes, over}
+use Rattle.numbers.specs.Words.{Bytes, over, zeros}
 use Rattle.numbers.specs.Result.{ok}
 use Rattle.schema.specs.Defs.{Schema, winning}
 use Rattle.schema.specs.Psch.{schemaOf}
@@ -59,3 +59,11 @@ pub record InUse (S : Schema) (R : Round) (n : ℕ) (p : Progress) (w : Bytes) :
   pub rep : Rep S R n state stack p before
   pub few : length table ≤ 4 * p .blocks
   pub is : w ≡ over before tableAt table
+
+-- the rows of blocks and of remarks, and the table of places, set to 0
+abbrev pub rowsWiped : Bytes → ℕ → ℕ → Bytes
+rowsWiped w blocks rows = over (over (over w 0 (zeros (8 * blocks))) 32768 (zeros (16 * rows))) tableAt (zeros (4 * blocks))
+
+-- the used names set to 0
+abbrev pub namesWiped : Bytes → ℕ → ℕ → ℕ → Bytes
+namesWiped w entries structs enums = over (over w 65536 (zeros (4 * structs))) (65536 + 4 * entries) (zeros (4 * enums))

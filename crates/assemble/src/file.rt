@@ -20,7 +20,7 @@ ghost use Rattle.layout.proofs.Places.{total};
 ghost use Rattle.area.specs.Area.{rowsOf, Small};
 ghost use Rattle.area.specs.Posts.{Safe};
 ghost use Rattle.assemble.specs.Used.{Counts};
-ghost use Rattle.assemble.specs.Packed.{Holds, Fitting, SomeFitting, InUse};
+ghost use Rattle.assemble.specs.Packed.{Holds, Fitting, SomeFitting, InUse, rowsWiped, namesWiped};
 
 // The lengths of the `count` blocks together.
 fn data_length(work: &[u8], count: usize) -> usize
@@ -69,18 +69,36 @@ pub fn put_file(schema: &[u8], work: &mut [u8], round: Round, p: Progress, point
     put_schema(schema, work, round, p, &mut out[end..]);
 }
 
-// Clears what is in use: rows of blocks and of remarks, the table of places, names, items, stack.
+// Clears the rows of blocks and of remarks, and the table of places.
+fn wipe_rows(work: &mut [u8], blocks: usize, rows: usize)
+    requires { ⌜ (65536 ≤ length (now work)) × (blocks ≤ 4095) × (rows ≤ 1024) ⌝ }
+    ensures { λ _. ⌜ now (work .exit) ≡ rowsWiped (now (work .entry)) blocks rows ⌝ }
+{
+    clear(work, 0, 8 * blocks);
+    clear(work, 32768, 16 * rows);
+    clear(work, 49152, 4 * blocks);
+}
+
+// Clears the used names.
+fn wipe_names(work: &mut [u8], entries: usize, structs: usize, enums: usize)
+    requires { ⌜ (65536 + 8 * entries ≤ length (now work)) × (structs ≤ entries) × (enums ≤ entries) ⌝ }
+    ensures { λ _. ⌜ now (work .exit) ≡ namesWiped (now (work .entry)) entries structs enums ⌝ }
+{
+    clear(work, 65536, 4 * structs);
+    clear(work, 65536 + 4 * entries, 4 * enums);
+}
+
+// Clears what is in use of a work area: rows, names, items, stack; then all of it is zero.
 pub fn wipe(work: &mut [u8], round: Round, p: Progress)
     requires { ⌜ Safe round (length (now work)) p ⌝ }
     ensures { λ _. ⌜ ((S : Schema) → InUse S round (length (now (work .entry))) p (now (work .entry)) → now (work .exit) ≡ zeros (length (now (work .entry)))) ⌝ }
 {
     let items = 65536 + 8 * round.entries;
     let stack = items + round.cap;
-    clear(work, 0, 8 * p.blocks);
-    clear(work, 32768, 16 * p.rows);
-    clear(work, 49152, 4 * p.blocks);
-    clear(work, 65536, 4 * p.structs);
-    clear(work, 65536 + 4 * round.entries, 4 * p.enums);
-    clear(work, items, p.end - items);
-    clear(work, stack, p.top - stack);
+    let laid = p.end - items;
+    let held = p.top - stack;
+    wipe_rows(work, p.blocks, p.rows);
+    wipe_names(work, round.entries, p.structs, p.enums);
+    clear(work, items, laid);
+    clear(work, stack, held);
 }
