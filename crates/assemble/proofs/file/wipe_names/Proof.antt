@@ -35,7 +35,7 @@ same-length c = search needs
 
 -- src/file.rt:83:1
 returns : tie.Need-returns
-returns c = ?
+returns c = cc
 
 pub wipe-names-spec : {M : Type 1} → statement M
 wipe-names-spec =
