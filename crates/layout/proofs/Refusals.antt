@@ -3,7 +3,7 @@
 use Prim.Native.Nat.{ℕ, zero, suc, _+_, _*_, _≤_}
 use native.Mathlib.Omega.{arith}
 use mathlib.Core.Bool.{Bool, true, false, cond, not, _||_}
-use mathlib.Core.List.{List, _∷_, _++_}
+use mathlib.Core.List.{_∷_, _++_}
 use mathlib.Core.Option.{Option, none, some}
 use lib.Dec.{leb, ltb, eqb}
 use lib.ListN.{length}
@@ -14,12 +14,12 @@ use Rattle.value.specs.Answer.{checked, numberOf}
 use Rattle.value.specs.declared.check.Sheet.{Sheet}
 use Rattle.value.specs.declared.check.Sheet.the-variants as X
 use Rattle.schema.specs.Sections.{Sections, section, end, broken, PSIN, PMAP, PSCH, sections}
-use Rattle.schema.specs.Defs.{Schema, Lookup, StructDef, winning, indexEntries}
-use Rattle.schema.specs.Psch.{Def, structure, enumeration, structHere, enumHere, structAt, enumAt, defAt, defsFrom, pschOf, sectionDefs, defsOf, schemaOf, outside}
-use Rattle.pso.specs.Reader.{Seen, Pso, headOf, countOf, blocksAt, pmapOf, withData, withMap, withDefs, seeSection, seeAll, psoFrom, nothingSeen, parsePso}
-use Rattle.layout.specs.State.{State, Core, Env, Out, done, stop, Remark, thin, remark, pay, settle, onCore, bind, after, logStart, logEnum, useStruct, useStructC, useEnum, useEnumC, addItem, addItemC, withCharge, emptyState}
+use Rattle.schema.specs.Defs.{Lookup, StructDef, winning, indexEntries}
+use Rattle.schema.specs.Psch.{structure, enumeration, structHere, enumHere, structAt, enumAt, defAt, defsFrom, pschOf, sectionDefs, defsOf, schemaOf, outside}
+use Rattle.pso.specs.Reader.{Seen, headOf, countOf, blocksAt, pmapOf, withData, withMap, withDefs, seeSection, seeAll, psoFrom, nothingSeen, parsePso}
+use Rattle.layout.specs.State.{State, Core, Env, Out, done, stop, thin, remark, pay, settle, onCore, bind, after, logStart, logEnum, useStruct, useStructC, useEnum, useEnumC, addItem, addItemC, withCharge, emptyState}
 use Rattle.layout.specs.Write.{root}
-use Rattle.layout.specs.Build.{Laid, Built, refusedBy, sheetOk, workNeed, capOf, within, laidFrom, layoutWith, layoutOf, layout, packed, fitted, build}
+use Rattle.layout.specs.Build.{refusedBy, sheetOk, workNeed, capOf, within, laidFrom, layoutWith, layoutOf, layout, packed, fitted, build}
 use Rattle.layout.proofs.Keep.{Claim, Okay, Keeps}
 use Rattle.layout.proofs.Writers.{Prims, k-root}
 

@@ -1,6 +1,5 @@
 -- The reader's answers as the numbers that go out. Assumes nothing.
 use mathlib.Core.Path.{_≡_, refl, sym, ap, _∙_}
-use mathlib.Core.Option.{Option}
 use Prim.Native.Nat.{ℕ}
 use Rattle.numbers.specs.Words.{Bytes}
 use Rattle.numbers.specs.Result.{Result, ok, refused}
