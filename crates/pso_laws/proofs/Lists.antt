@@ -1,16 +1,15 @@
 -- Lists: what stands at a number, the first of a name, a part of the front. Assumes nothing.
-use Prim.Native.Nat.{ℕ, zero, suc, _+_, _*_, _<_}
+use Prim.Native.Nat.{ℕ, zero, suc, _+_, _<_}
 use native.Mathlib.Omega.{arith}
-use mathlib.Core.Path.{_≡_, refl, ap, _∙_}
+use mathlib.Core.Path.{_≡_, refl, ap}
 use mathlib.Core.Bool.{Bool, true, false}
 use mathlib.Core.List.{List, [], _∷_, _++_, map}
 use mathlib.Core.Option.{none, some}
 use lib.Dec.{eqb}
 use lib.ListN.{length, take, drop}
 use borrow.Author.Tests.{eqb-true}
-use Rattle.numbers.specs.Words.{Bytes, readAt}
-use Rattle.schema.specs.Defs.{Member, firstNamed}
-use Rattle.schema.specs.Psch.{memberAt, membersAt, entriesAt}
+use Rattle.numbers.specs.Words.{Bytes}
+use Rattle.schema.specs.Defs.{firstNamed}
 use Rattle.pso.specs.Reader as R
 use Rattle.pso.specs.Blocks.{nthOf, numbered}
 use Rattle.layout.specs.State.{Block}
@@ -46,38 +45,6 @@ pub places-length : (at : ℕ) (bs : List Block) → length (placesFrom at bs) �
 unfolding placesFrom
 places-length at [] = refl
 places-length at (b ∷ bs) = ap suc (places-length (at + b .len) bs)
-
-pub members-length : (F : Bytes) (n at : ℕ) → length (membersAt F n at) ≡ n
-unfolding membersAt
-members-length F zero at = refl
-members-length F (suc n) at = ap suc (members-length F n (at + 12))
-
-pub nth-member : (F : Bytes) (n at k : ℕ) (m : Member) → nth (membersAt F n at) k ≡ some m → memberAt F (at + 12 * k) ≡ m
-unfolding membersAt nth
-nth-member F zero at k m e = absurd (let z : _≡_ {A = ℕ} 0 1 = cc in omega arith)
-nth-member F (suc n) at zero m e =
-    let p : at + 12 * 0 ≡ at = omega arith in
-    let q : memberAt F at ≡ m = cc in
-    ap (memberAt F) p ∙ q
-nth-member F (suc n) at (suc k) m e =
-    let p : at + 12 * suc k ≡ at + 12 + 12 * k = omega arith in
-    ap (memberAt F) p ∙ nth-member F n (at + 12) k m e
-
-pub entries-length : (F : Bytes) (n at : ℕ) → length (entriesAt F n at) ≡ n
-unfolding entriesAt
-entries-length F zero at = refl
-entries-length F (suc n) at = ap suc (entries-length F n (at + 8))
-
-pub nth-entry : (F : Bytes) (n at k : ℕ) (e : ℕ × ℕ) → nth (entriesAt F n at) k ≡ some e → (readAt 4 F (at + 8 * k), readAt 4 F (at + 8 * k + 4)) ≡ e
-unfolding entriesAt nth
-nth-entry F zero at k x e = absurd (let z : _≡_ {A = ℕ} 0 1 = cc in omega arith)
-nth-entry F (suc n) at zero x e =
-    let p : at + 8 * 0 ≡ at = omega arith in
-    let q : (readAt 4 F at, readAt 4 F (at + 4)) ≡ x = cc in
-    ap (λ (y : ℕ). (readAt 4 F y, readAt 4 F (y + 4))) p ∙ q
-nth-entry F (suc n) at (suc k) x e =
-    let p : at + 8 * suc k ≡ at + 8 + 8 * k = omega arith in
-    ap (λ (y : ℕ). (readAt 4 F y, readAt 4 F (y + 4))) p ∙ nth-entry F n (at + 8) k x e
 
 -- of every element
 pub every-map : {A : Type 0} (P Q : A → Type 0) → ((a : A) → P a → Q a) → (l : List A) → Every P l → Every Q l

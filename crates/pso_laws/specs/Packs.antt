@@ -9,16 +9,14 @@ use Rattle.numbers.specs.Words.{Bytes}
 use Rattle.numbers.specs.Result.{ok}
 use Rattle.numbers.proofs.Bytes.{Octets}
 use Rattle.value.specs.Rows.{row}
-use Rattle.schema.specs.Defs.{Member, StructDef, EnumDef, Schema, Lookup, winning}
+use Rattle.schema.specs.Defs.{StructDef, EnumDef, Schema, Lookup, winning}
 use Rattle.schema.specs.Psch.{schemaOf}
 use Rattle.pso.specs.Reader.{Pso, parsePso}
 use Rattle.layout.specs.State.{Item, Block, contains}
-use Rattle.layout.specs.Members.{nth}
 use Rattle.layout.specs.Assemble.{itemsIn}
 use Rattle.layout.specs.Build.{Laid, After, layout, buildPso}
 use Rattle.layout.specs.Demand3.{ItemsTile, pointerOf, pointerBlock, pointerStart, Every, CarriesUsed}
-use Rattle.sandvurek.specs.Exports.{outcomeOf, readingOf, blockOf, structureOf, enumOf, memberIs, memberOf, entryOf}
-use Rattle.sandvurek.specs.declared.Definition.{Definition}
+use Rattle.sandvurek.specs.Exports.{outcomeOf, readingOf, blockOf, structureOf, enumOf, IsStruct, IsEnum}
 
 -- "the file stands at the front of the output"
 abbrev pub fileIn : After → Bytes
@@ -45,20 +43,6 @@ pub record RootEnds (T F : Bytes) (l : Laid) : Type 0 where
   pub found : blockOf F (readingOf F .root) .found ≡ 1
   pub named : blockOf F (readingOf F .root) .name ≡ row T 0 .a
   pub ends : pointerStart (pointerOf root) + length (root .bytes) ≡ blockOf F (readingOf F .root) .length
-
--- a look-up in F gives the structure d, with its members
-pub record IsStruct (F : Bytes) (D : Definition) (d : StructDef) : Type 0 where
-  pub found : D .found ≡ 1
-  pub unknown : D .unknown ≡ d .unknown
-  pub size : D .size ≡ d .size
-  pub count : D .count ≡ length (d .members)
-  pub members : (k : ℕ) (m : Member) → nth (d .members) k ≡ some m → memberOf F (D .at) k ≡ memberIs m
-
--- .. the enum d, with its entries
-pub record IsEnum (F : Bytes) (D : Definition) (d : EnumDef) : Type 0 where
-  pub found : D .found ≡ 1
-  pub count : D .count ≡ length (d .entries)
-  pub entries : (k : ℕ) (e : ℕ × ℕ) → nth (d .entries) k ≡ some e → entryOf F (D .at) k ≡ record { name = e .0; value = e .1 }
 
 -- a used name leads to "S's winning one", another to none
 abbrev pub StructBy : Lookup → Bytes → ℕ → Bool → Type 0

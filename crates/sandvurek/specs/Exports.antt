@@ -1,5 +1,6 @@
 -- What each exported function answers.
 use Prim.Native.Nat.{ℕ, _+_, _*_}
+use mathlib.Core.Path.{_≡_}
 use mathlib.Core.Option.{Option, none, some}
 use lib.ListN.{length}
 use Rattle.numbers.specs.Words.{Bytes}
@@ -15,6 +16,7 @@ use Rattle.pso.specs.Blocks.{numbered, blocksOf}
 use Rattle.pso.specs.Answers.{dataAt, structureAt, enumerationAt}
 use Rattle.pso.specs.declared.definitions.Definition as P
 use Rattle.pso.specs.declared.definitions.Definition.the-variants.{Found, Nothing}
+use Rattle.layout.specs.Members.{nth}
 use Rattle.layout.specs.Build.{Answer, success, refusal, After}
 use Rattle.sandvurek.specs.declared.Outcome.{Outcome}
 use Rattle.sandvurek.specs.declared.Reading.{Reading}
@@ -78,3 +80,27 @@ entryIs e = record { name = e .name; value = e .value }
 -- entry `index`, from 0, of the enum at a place: "or 4 bytes"
 abbrev pub entryOf : Bytes → ℕ → ℕ → Entry
 entryOf F at index = entryIs (entryHere F (at + 4 + 8 * index))
+
+-- a look-up in F gives the structure d, with its members
+pub record IsStruct (F : Bytes) (r : Definition) (d : D.StructDef) : Type 0 where
+  pub found : r .found ≡ 1
+  pub unknown : r .unknown ≡ d .unknown
+  pub size : r .size ≡ d .size
+  pub count : r .count ≡ length (d .members)
+  pub members : (k : ℕ) (m : D.Member) → nth (d .members) k ≡ some m → memberOf F (r .at) k ≡ memberIs m
+
+-- .. the enum d, with its entries
+pub record IsEnum (F : Bytes) (r : Definition) (d : D.EnumDef) : Type 0 where
+  pub found : r .found ≡ 1
+  pub count : r .count ≡ length (d .entries)
+  pub entries : (k : ℕ) (e : ℕ × ℕ) → nth (d .entries) k ≡ some e → entryOf F (r .at) k ≡ record { name = e .0; value = e .1 }
+
+-- .. what a name stands for, or none
+abbrev pub StructIs : Bytes → Definition → Option D.StructDef → Type 0
+StructIs F r (some d) = IsStruct F r d
+StructIs F r none = r .found ≡ 0
+
+-- .. of enums
+abbrev pub EnumIs : Bytes → Definition → Option D.EnumDef → Type 0
+EnumIs F r (some d) = IsEnum F r d
+EnumIs F r none = r .found ≡ 0

@@ -10,9 +10,10 @@ use schema::members::read_entry;
 use schema::members::read_member;
 ghost use mathlib.Core.Path.{_≡_};
 ghost use Rattle.numbers.specs.Result.{ok};
+ghost use Rattle.schema.specs.Defs.{leading};
 ghost use Rattle.pso.specs.Reader.{Pso, parsePso};
 ghost use Rattle.pso.specs.Blocks.{numbered};
-ghost use Rattle.sandvurek.specs.Exports.{readingOf, blockIs, blockOf, definitionIs, structureOf, enumOf, memberOf, entryOf};
+ghost use Rattle.sandvurek.specs.Exports.{readingOf, blockIs, blockOf, definitionIs, structureOf, enumOf, memberOf, entryOf, StructIs, EnumIs};
 
 // What building gives: code 0, the file's length and the number of remarks; or the refusal's number, and zeros.
 #[repr(C)]
@@ -136,6 +137,7 @@ fn numbers_of(d: Found) -> Definition
 #[no_mangle]
 pub extern "C" fn sandvurek_structure(file: &[u8], name: u32) -> Definition
     ensures { λ r. ⌜ r ≡ structureOf (now (file .entry)) name ⌝ }
+    ensures { λ r. ⌜ ((p : Pso) → parsePso (now (file .entry)) ≡ ok p → StructIs (now (file .entry)) r (leading (p .schema) .struct name)) ⌝ }
 {
     numbers_of(structure(file, name))
 }
@@ -144,6 +146,7 @@ pub extern "C" fn sandvurek_structure(file: &[u8], name: u32) -> Definition
 #[no_mangle]
 pub extern "C" fn sandvurek_enum(file: &[u8], name: u32) -> Definition
     ensures { λ r. ⌜ r ≡ enumOf (now (file .entry)) name ⌝ }
+    ensures { λ r. ⌜ ((p : Pso) → parsePso (now (file .entry)) ≡ ok p → EnumIs (now (file .entry)) r (leading (p .schema) .enum name)) ⌝ }
 {
     numbers_of(enumeration(file, name))
 }
