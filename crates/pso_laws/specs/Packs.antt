@@ -98,7 +98,7 @@ pub record Pack (T S : Bytes) (work out records : ℕ) (F : Bytes) : Type 0 wher
   -- building T with F as schema file gives F
   pub givesAgain : GivesAgain T F work out
 
--- every call of sandvurek_build that answers code 0 leaves such a pack at the front of its output, for all sheets, schema files and lengths. S is a list of bytes, as every slice is
+-- a building that answers code 0 leaves such a pack at the front of its output, for all sheets, schema files and lengths. S is a list of bytes, as every slice is
 abbrev pub EveryBuiltPack : Type 0
 EveryBuiltPack =
     (T S : Bytes) (work : ℕ) (out : Bytes) (records : ℕ) → Octets S → outcomeOf (buildPso T S work out records) .code ≡ 0
