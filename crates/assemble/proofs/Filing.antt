@@ -6,7 +6,7 @@ use mathlib.Core.Bool.{Bool, true, false}
 use mathlib.Core.List.{List, [], _∷_, _++_, append-assoc}
 use lib.Dec.{leb}
 use lib.ListN.{length, take, drop, length-append, length-drop, take-append-drop}
-use lib.Seq.{length-take-le, drop-drop}
+use lib.Seq.{length-take-le}
 use borrow.Author.Tests.{leb-true, leb-false}
 use borrow.Rule.Slice.PartMut.{putMid}
 use Rattle.numbers.specs.Words.{Bytes, words, over}
@@ -18,11 +18,10 @@ use Rattle.layout.specs.Demand3.{Every}
 use Rattle.layout.specs.Assemble.{Records, recordsOf, usedOf, dataOf, psinOf, pmapOf, pschBytes, fileOf}
 use Rattle.layout.proofs.Blocks.{ShortNames}
 use Rattle.layout.proofs.Places.{total, data-total, psin-length}
-use Rattle.layout.proofs.ReadDefs.{bodies}
 use Rattle.layout.proofs.ReadSchema.{pmap-length, file-length}
 use Rattle.area.specs.declared.Round.{Round}
 use Rattle.area.specs.declared.Progress.{Progress}
-use Rattle.area.specs.Segments.{Segment, flat}
+use Rattle.area.specs.Segments.{flat}
 use Rattle.area.specs.Rows.{namesIn}
 use Rattle.area.specs.Kept.{kept, rowsBytes}
 use Rattle.area.specs.Area.{rowsOf, encode, itemsAt, stackAt, Small}
@@ -34,7 +33,7 @@ use Rattle.area.proofs.Over.{over-mid, over-part, over-seq, length-over}
 use Rattle.area.proofs.Spots.{length-rowsOf}
 use Rattle.assemble.specs.Map.{Whole, placesOf}
 use Rattle.assemble.specs.Used.{recordsFor, sizeOf, Counts}
-use Rattle.assemble.specs.Packed.{usedRecords, AllStored, Holds, Fitting, tableAt, InUse}
+use Rattle.assemble.specs.Packed.{usedRecords, AllStored, Holds, tableAt, InUse}
 use Rattle.assemble.proofs.Maps.{over-none, count-places}
 use Rattle.assemble.proofs.Heads.{stands-behind}
 use Rattle.assemble.proofs.Listing.{count-records}
