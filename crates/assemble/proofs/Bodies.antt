@@ -3,7 +3,7 @@ use Prim.Native.Nat.{ℕ, zero, suc, _+_, _-_, _*_, _^_, _≤_, _<_}
 use native.Mathlib.Omega.{arith}
 use mathlib.Core.Path.{_≡_, refl, sym, _∙_, ap, ap₂, subst}
 use mathlib.Core.Bool.{Bool, true, false}
-use mathlib.Core.List.{List, [], _∷_, _++_, map, append-assoc, append-nil}
+use mathlib.Core.List.{[], _∷_, _++_, map, append-assoc, append-nil}
 use mathlib.Core.Option.{Option, none, some}
 use lib.ListN.{length, take, drop, length-append, length-drop}
 use lib.Seq.{take-add, drop-drop, length-take-le}
@@ -108,12 +108,12 @@ module _ (F : Bytes) (o : Octets F) where
       let s = l .within .head refl in
       let M : Bytes = cut F (12 * n) (at + 12) in
       let a : cut F 8 at ≡ bytesOf 1 0 ++ (bytesOf 1 (readAt 1 F (at + 1)) ++ (bytesOf 2 n ++ bytesOf 4 (readAt 4 F (at + 4)))) =
-          cut-head 1 7 at (at + 1) refl (omega (arith, s))
-          ∙ ap₂ (λ (x : ℕ) (y : Bytes). bytesOf 1 x ++ y) (l .top)
-          (cut-head 1 6 (at + 1) (at + 2) (omega arith) (omega (arith, s))
-          ∙ ap (λ (y : Bytes). bytesOf 1 (readAt 1 F (at + 1)) ++ y)
-          (cut-head 2 4 (at + 2) (at + 4) (omega arith) (omega (arith, s))
-          ∙ ap (λ (y : Bytes). bytesOf 2 n ++ y) (cut-is 4 (at + 4) (omega (arith, s))))) in
+      cut-head 1 7 at (at + 1) refl (omega (arith, s))
+      ∙ ap₂ (λ (x : ℕ) (y : Bytes). bytesOf 1 x ++ y) (l .top)
+      (cut-head 1 6 (at + 1) (at + 2) (omega arith) (omega (arith, s))
+      ∙ ap (λ (y : Bytes). bytesOf 1 (readAt 1 F (at + 1)) ++ y)
+      (cut-head 2 4 (at + 2) (at + 4) (omega arith) (omega (arith, s))
+      ∙ ap (λ (y : Bytes). bytesOf 2 n ++ y) (cut-is 4 (at + 4) (omega (arith, s))))) in
       ap (λ (x : Bytes). x ++ (bytesOf 4 0 ++ M)) a
       ∙ regroup (bytesOf 1 0) (bytesOf 1 (readAt 1 F (at + 1))) (bytesOf 2 n) (bytesOf 4 (readAt 4 F (at + 4))) (bytesOf 4 0) M
       ∙ ap₂ (λ (k : ℕ) (y : Bytes). bytesOf 1 0 ++ (bytesOf 1 (readAt 1 F (at + 1)) ++ (bytesOf 2 k ++ ((bytesOf 4 (readAt 4 F (at + 4)) ++ (bytesOf 4 0 ++ [])) ++ y))))

@@ -3,7 +3,7 @@ use Prim.Native.Nat.{ℕ, zero, suc, _+_, _-_, _*_, _^_, _≤_, _<_}
 use native.Mathlib.Omega.{arith}
 use mathlib.Core.Path.{_≡_, refl, sym, _∙_, ap, ap₂, subst}
 use mathlib.Core.Bool.{Bool}
-use mathlib.Core.List.{List, [], _∷_, _++_, map, append-assoc}
+use mathlib.Core.List.{List, [], _∷_, _++_, append-assoc}
 use lib.ListN.{length, take, drop, length-append, length-map, take-append-drop}
 use lib.Seq.{length-take-le}
 use Rattle.numbers.specs.Words.{Bytes, readAt, words, over}
@@ -121,8 +121,8 @@ module _ (F w : Bytes) (e : Bool) (names count : ℕ) where
       → Summing from (sum + (8 + n)) (k + 1)
   sum-turn from sum k n name s h l q m =
       let z : sizeOf (rest k) ≡ 8 + n + sizeOf (rest (k + 1)) =
-          ap (λ (ns : List ℕ). sizeOf (recordsFor F e ns)) (names-on k h) ∙ size-cons (readAt 4 w (names + 4 * k), bodyOf F e (readAt 4 w (names + 4 * k))) (rest (k + 1))
-          ∙ ap (λ (x : ℕ). 8 + x + sizeOf (rest (k + 1))) (ap (λ (x : ℕ). length (bodyOf F e x)) (sym q) ∙ sym (m .0)) in
+      ap (λ (ns : List ℕ). sizeOf (recordsFor F e ns)) (names-on k h) ∙ size-cons (readAt 4 w (names + 4 * k), bodyOf F e (readAt 4 w (names + 4 * k))) (rest (k + 1))
+      ∙ ap (λ (x : ℕ). 8 + x + sizeOf (rest (k + 1))) (ap (λ (x : ℕ). length (bodyOf F e x)) (sym q) ∙ sym (m .0)) in
       record { few = omega arith; low = omega (arith, l, m .1); same = omega (arith, s .same, z) }
 
   pub sum-long : (from sum k : ℕ) → Summing from sum k → 16777216 < sum → Counts sum (from + sizeOf all) × (sum < 2 ^ 48)
@@ -166,7 +166,7 @@ module _ (F w : Bytes) (e : Bool) (names count : ℕ) where
           let f : leftOf k ≡ [] = names-done k h in
           let z : at + 0 ≡ to + length (bodies all) = ap (λ (ns : List ℕ). at + length (bodies (recordsFor F e ns))) (sym f) ∙ p .ends in
           let s : over (over o (index + 8 * k) []) at [] ≡ over (over o₀ index (indexOf to all)) to (bodies all) =
-              ap (λ (ns : List ℕ). over (over o (index + 8 * k) (indexOf at (recordsFor F e ns))) at (bodies (recordsFor F e ns))) (sym f) ∙ p .same in
+          ap (λ (ns : List ℕ). over (over o (index + 8 * k) (indexOf at (recordsFor F e ns))) at (bodies (recordsFor F e ns))) (sym f) ∙ p .same in
           (omega (arith, z), sym (over-none (over o (index + 8 * k) []) at ∙ over-none o (index + 8 * k)) ∙ s)
 
       module _ (h : k < count) (name : ℕ) (q : name ≡ readAt 4 w (names + 4 * k)) where
@@ -179,7 +179,7 @@ module _ (F w : Bytes) (e : Bool) (names count : ℕ) where
         ends-at : at + (length (bodyOf F e name) + length (bodies (rest (k + 1)))) ≡ to + length (bodies all)
         ends-at =
             let z : length (bodies (rest k)) ≡ length (bodyOf F e name) + length (bodies (rest (k + 1))) =
-                ap (λ (ns : List ℕ). length (bodies (recordsFor F e ns))) on ∙ ap length (bodies-cons one (rest (k + 1))) ∙ length-append (bodyOf F e name) (bodies (rest (k + 1))) in
+            ap (λ (ns : List ℕ). length (bodies (recordsFor F e ns))) on ∙ ap length (bodies-cons one (rest (k + 1))) ∙ length-append (bodyOf F e name) (bodies (rest (k + 1))) in
             omega (arith, z, p .ends)
 
         pub put-turn : Stored F e name × ((index + 8 * k + 8 ≤ at) × (at + length (bodyOf F e name) ≤ length o) × (at + length (bodyOf F e name) ≤ to + length (bodies all)))
@@ -199,7 +199,7 @@ module _ (F w : Bytes) (e : Bool) (names count : ℕ) where
             let li : length I ≡ 8 * (count - (k + 1)) = index-length at' rs ∙ ap (λ (n : ℕ). 8 * n) (count-left (k + 1)) in
             let ia : indexOf at (one ∷ rs) ≡ W ++ I = index-cons at one rs ∙ ap (λ (n : ℕ). W ++ indexOf n rs) (sym ea) in
             let s : over (over o i (W ++ I)) at (B ++ J) ≡ over (over o i (indexOf at (rest k))) at (bodies (rest k)) =
-                ap₂ (λ (x y : Bytes). over (over o i x) at y) (sym ia) (sym (bodies-cons one rs)) ∙ ap (λ (ns : List ℕ). over (over o i (indexOf at (recordsFor F e ns))) at (bodies (recordsFor F e ns))) (sym on) in
+            ap₂ (λ (x y : Bytes). over (over o i x) at y) (sym ia) (sym (bodies-cons one rs)) ∙ ap (λ (ns : List ℕ). over (over o i (indexOf at (recordsFor F e ns))) at (bodies (recordsFor F e ns))) (sym on) in
             record {
               few = omega arith;
               long = l ∙ p .long;

@@ -34,7 +34,7 @@ module _ (rs qs : Records) where
       let t : 12 + 8 * length (rs ++ qs) ≡ to = omega (arith, l, et) in
       let z : 12 + 8 * length (rs ++ qs) + length (bodies (rs ++ qs)) ≡ end = omega (arith, t, em, ee, ap length (bodies-append rs qs), length-append (bodies rs) (bodies qs)) in
       let i : indexOf (12 + 8 * length (rs ++ qs)) (rs ++ qs) ≡ indexOf to rs ++ indexOf mid qs =
-          ap (λ (x : ℕ). indexOf x (rs ++ qs)) t ∙ index-append to rs qs ∙ ap (λ (x : ℕ). indexOf to rs ++ indexOf x qs) (sym em) in
+      ap (λ (x : ℕ). indexOf x (rs ++ qs)) t ∙ index-append to rs qs ∙ ap (λ (x : ℕ). indexOf to rs ++ indexOf x qs) (sym em) in
       sym (ap₂ (λ (x y : ℕ). words (PSCH ∷ x ∷ y ∷ []) ++ (indexOf (12 + 8 * length (rs ++ qs)) (rs ++ qs) ++ bodies (rs ++ qs))) z l
       ∙ ap₂ (λ (x y : Bytes). words (PSCH ∷ end ∷ n ∷ []) ++ (x ++ y)) i (bodies-append rs qs))
 
@@ -53,8 +53,8 @@ module _ (rs qs : Records) where
       let l12 : length (I1 ++ I2) ≡ 8 * n = length-append I1 I2 ∙ omega (arith, l1, l2, en) in
       let lh : length H ≡ 12 = length-words (PSCH ∷ end ∷ n ∷ []) in
       let s2 : o2 ≡ over (over o 12 (I1 ++ I2)) to (J1 ++ J2) =
-          e2 ∙ ap (λ (x : Bytes). over (over x second I2) mid J2) e1
-          ∙ over-both o 12 second to mid I1 I2 J1 J2 (omega (arith, l1, es)) (sym em) (omega (arith, l2, es, et, en)) (omega (arith, ee, h)) in
+      e2 ∙ ap (λ (x : Bytes). over (over x second I2) mid J2) e1
+      ∙ over-both o 12 second to mid I1 I2 J1 J2 (omega (arith, l1, es)) (sym em) (omega (arith, l2, es, et, en)) (omega (arith, ee, h)) in
       let lx : to ≡ 12 + length (I1 ++ I2) = omega (arith, et, l12) in
       let s3 : o2 ≡ over o 12 X = s2 ∙ ap (λ (k : ℕ). over (over o 12 (I1 ++ I2)) k (J1 ++ J2)) lx ∙ over-seq o 12 (I1 ++ I2) (J1 ++ J2) (omega (arith, lx, em, ee, h)) in
       let l3 : length o2 ≡ length o = ap length s3 ∙ length-over o 12 X (omega (arith, length-append (I1 ++ I2) (J1 ++ J2), length-append J1 J2, lx, em, ee, h)) in

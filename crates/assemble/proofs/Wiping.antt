@@ -54,26 +54,26 @@ module _ (R : Round) (n : ℕ) where
     seven-wiped a b t c d i s la lb lt lc ld li ls w w1 w2 w3 w4 e e1 e2 e3 e4 =
         let E = 4 * R .entries in
         let a1 : over w 0 (zeros (8 * p .blocks)) ≡ flat (seven [] b t c d i s) =
-            ap (λ (x : Bytes). over x 0 (zeros (8 * p .blocks))) e
-            ∙ cleared [] ((16384, b) ∷ (16384, t) ∷ (E, c) ∷ (E, d) ∷ (R .cap, i) ∷ (n - stackAt R, s) ∷ []) 32768 a (8 * p .blocks) 0 la (omega (arith, h .blocks)) refl in
+        ap (λ (x : Bytes). over x 0 (zeros (8 * p .blocks))) e
+        ∙ cleared [] ((16384, b) ∷ (16384, t) ∷ (E, c) ∷ (E, d) ∷ (R .cap, i) ∷ (n - stackAt R, s) ∷ []) 32768 a (8 * p .blocks) 0 la (omega (arith, h .blocks)) refl in
         let a2 : over (over w 0 (zeros (8 * p .blocks))) 32768 (zeros (16 * p .rows)) ≡ flat (seven [] [] t c d i s) =
-            ap (λ (x : Bytes). over x 32768 (zeros (16 * p .rows))) a1
-            ∙ cleared ((32768, []) ∷ []) ((16384, t) ∷ (E, c) ∷ (E, d) ∷ (R .cap, i) ∷ (n - stackAt R, s) ∷ []) 16384 b (16 * p .rows) 32768 lb (omega (arith, h .rows)) (omega arith) in
+        ap (λ (x : Bytes). over x 32768 (zeros (16 * p .rows))) a1
+        ∙ cleared ((32768, []) ∷ []) ((16384, t) ∷ (E, c) ∷ (E, d) ∷ (R .cap, i) ∷ (n - stackAt R, s) ∷ []) 16384 b (16 * p .rows) 32768 lb (omega (arith, h .rows)) (omega arith) in
         let a3 : w1 ≡ flat (seven [] [] [] c d i s) =
-            e1 ∙ ap (λ (x : Bytes). over x 49152 (zeros (4 * p .blocks))) a2
-            ∙ cleared ((32768, []) ∷ (16384, []) ∷ []) ((E, c) ∷ (E, d) ∷ (R .cap, i) ∷ (n - stackAt R, s) ∷ []) 16384 t (4 * p .blocks) 49152 lt (omega (arith, h .blocks)) (omega arith) in
+        e1 ∙ ap (λ (x : Bytes). over x 49152 (zeros (4 * p .blocks))) a2
+        ∙ cleared ((32768, []) ∷ (16384, []) ∷ []) ((E, c) ∷ (E, d) ∷ (R .cap, i) ∷ (n - stackAt R, s) ∷ []) 16384 t (4 * p .blocks) 49152 lt (omega (arith, h .blocks)) (omega arith) in
         let a4 : over w1 65536 (zeros (4 * p .structs)) ≡ flat (seven [] [] [] [] d i s) =
-            ap (λ (x : Bytes). over x 65536 (zeros (4 * p .structs))) a3
-            ∙ cleared ((32768, []) ∷ (16384, []) ∷ (16384, []) ∷ []) ((E, d) ∷ (R .cap, i) ∷ (n - stackAt R, s) ∷ []) E c (4 * p .structs) 65536 lc (omega (arith, h .structs)) (omega arith) in
+        ap (λ (x : Bytes). over x 65536 (zeros (4 * p .structs))) a3
+        ∙ cleared ((32768, []) ∷ (16384, []) ∷ (16384, []) ∷ []) ((E, d) ∷ (R .cap, i) ∷ (n - stackAt R, s) ∷ []) E c (4 * p .structs) 65536 lc (omega (arith, h .structs)) (omega arith) in
         let a5 : w2 ≡ flat (seven [] [] [] [] [] i s) =
-            e2 ∙ ap (λ (x : Bytes). over x (65536 + 4 * R .entries) (zeros (4 * p .enums))) a4
-            ∙ cleared ((32768, []) ∷ (16384, []) ∷ (16384, []) ∷ (E, []) ∷ []) ((R .cap, i) ∷ (n - stackAt R, s) ∷ []) E d (4 * p .enums) (65536 + 4 * R .entries) ld (omega (arith, h .enums)) (omega arith) in
+        e2 ∙ ap (λ (x : Bytes). over x (65536 + 4 * R .entries) (zeros (4 * p .enums))) a4
+        ∙ cleared ((32768, []) ∷ (16384, []) ∷ (16384, []) ∷ (E, []) ∷ []) ((R .cap, i) ∷ (n - stackAt R, s) ∷ []) E d (4 * p .enums) (65536 + 4 * R .entries) ld (omega (arith, h .enums)) (omega arith) in
         let a6 : w3 ≡ flat (seven [] [] [] [] [] [] s) =
-            e3 ∙ ap (λ (x : Bytes). over x (itemsAt R) (zeros (p .end - itemsAt R))) a5
-            ∙ cleared ((32768, []) ∷ (16384, []) ∷ (16384, []) ∷ (E, []) ∷ (E, []) ∷ []) ((n - stackAt R, s) ∷ []) (R .cap) i (p .end - itemsAt R) (itemsAt R) li (omega (arith, h .items, h .within)) (omega arith) in
+        e3 ∙ ap (λ (x : Bytes). over x (itemsAt R) (zeros (p .end - itemsAt R))) a5
+        ∙ cleared ((32768, []) ∷ (16384, []) ∷ (16384, []) ∷ (E, []) ∷ (E, []) ∷ []) ((n - stackAt R, s) ∷ []) (R .cap) i (p .end - itemsAt R) (itemsAt R) li (omega (arith, h .items, h .within)) (omega arith) in
         let a7 : w4 ≡ flat (seven [] [] [] [] [] [] []) =
-            e4 ∙ ap (λ (x : Bytes). over x (stackAt R) (zeros (p .top - stackAt R))) a6
-            ∙ cleared ((32768, []) ∷ (16384, []) ∷ (16384, []) ∷ (E, []) ∷ (E, []) ∷ (R .cap, []) ∷ []) [] (n - stackAt R) s (p .top - stackAt R) (stackAt R) ls (omega (arith, h .stack, h .within, h .room)) (omega arith) in
+        e4 ∙ ap (λ (x : Bytes). over x (stackAt R) (zeros (p .top - stackAt R))) a6
+        ∙ cleared ((32768, []) ∷ (16384, []) ∷ (16384, []) ∷ (E, []) ∷ (E, []) ∷ (R .cap, []) ∷ []) [] (n - stackAt R) s (p .top - stackAt R) (stackAt R) ls (omega (arith, h .stack, h .within, h .room)) (omega arith) in
         let r : rooms (seven [] [] [] [] [] [] []) ≡ n = omega (arith, h .room) in
         a7 ∙ bare-zeros (32768 ∷ 16384 ∷ 16384 ∷ E ∷ E ∷ R .cap ∷ (n - stackAt R) ∷ []) ∙ ap zeros r
 
@@ -87,9 +87,9 @@ module _ (R : Round) (n : ℕ) where
         let rows = kept (R .skip) (s .events) .rows in
         let E = 4 * R .entries in
         let e : w ≡ flat (seven (rowsOf (c .blocks)) (rowsBytes rows) (u .table) (words (c .structs)) (words (c .enums)) (encode (c .items)) (u .stack)) =
-            u .is ∙ ap (λ (x : Bytes). over x tableAt (u .table)) (r .work)
-            ∙ flat.append ((32768, rowsOf (c .blocks)) ∷ (16384, rowsBytes rows) ∷ []) ((E, words (c .structs)) ∷ (E, words (c .enums)) ∷ (R .cap, encode (c .items)) ∷ (n - stackAt R, u .stack) ∷ [])
-            16384 [] (u .table) tableAt (omega (arith, u .few, h .blocks)) (omega arith) in
+        u .is ∙ ap (λ (x : Bytes). over x tableAt (u .table)) (r .work)
+        ∙ flat.append ((32768, rowsOf (c .blocks)) ∷ (16384, rowsBytes rows) ∷ []) ((E, words (c .structs)) ∷ (E, words (c .enums)) ∷ (R .cap, encode (c .items)) ∷ (n - stackAt R, u .stack) ∷ [])
+        16384 [] (u .table) tableAt (omega (arith, u .few, h .blocks)) (omega arith) in
         seven-wiped (rowsOf (c .blocks)) (rowsBytes rows) (u .table) (words (c .structs)) (words (c .enums)) (encode (c .items)) (u .stack)
         (omega (arith, length-rowsOf (c .blocks), r .blocks)) (omega (arith, length-rows rows, r .rows)) (u .few) (omega (arith, length-words (c .structs), r .structs))
         (omega (arith, length-words (c .enums), r .enums)) (omega (arith, r .end)) (omega (arith, r .top)) w w1 w2 w3 w4 e e1 e2 e3 e4

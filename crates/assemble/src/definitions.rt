@@ -99,7 +99,14 @@ fn put_definition(schema: &[u8], enums: bool, place: usize, len: usize, out: &mu
 }
 
 // A name's index entry at `index` and its definition at `to`; where the definition ends.
-fn put_record(schema: &[u8], enums: bool, name: u32, out: &mut [u8], index: usize, to: usize) -> usize
+fn put_record(
+    schema: &[u8],
+    enums: bool,
+    name: u32,
+    out: &mut [u8],
+    index: usize,
+    to: usize,
+) -> usize
     requires { ⌜ Stored (now schema) enums name ⌝ }
     requires { ⌜ (index + 8 ≤ to) × (to + length (bodyOf (now schema) enums name) ≤ length (now out)) × (to < 2 ^ 32) ⌝ }
     ensures { λ r. ⌜ (r ≡ to + length (bodyOf (now (schema .entry)) enums name))
@@ -133,7 +140,7 @@ fn put_records(
         × (to + length (bodies (recordsFor (now schema) enums (namesIn (now work) names count))) < 2 ^ 32) ⌝ }
     ensures { λ r. ⌜ (r ≡ to + length (bodies (recordsFor (now (schema .entry)) enums (namesIn (now (work .entry)) names count))))
         × (now (out .exit) ≡ over (over (now (out .entry)) index (indexOf to (recordsFor (now (schema .entry)) enums (namesIn (now (work .entry)) names count))))
-            to (bodies (recordsFor (now (schema .entry)) enums (namesIn (now (work .entry)) names count)))) ⌝ }
+        to (bodies (recordsFor (now (schema .entry)) enums (namesIn (now (work .entry)) names count)))) ⌝ }
 {
     let mut at = to;
     let mut k = 0;

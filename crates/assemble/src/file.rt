@@ -57,7 +57,14 @@ pub fn file_length(schema: &[u8], work: &[u8], round: Round, p: Progress) -> usi
 }
 
 // The file, from the first byte of `out` on; of the work area only the table of places is changed.
-pub fn put_file(schema: &[u8], work: &mut [u8], round: Round, p: Progress, pointer: u32, out: &mut [u8])
+pub fn put_file(
+    schema: &[u8],
+    work: &mut [u8],
+    round: Round,
+    p: Progress,
+    pointer: u32,
+    out: &mut [u8],
+)
     requires { ⌜ Safe round (length (now work)) p ⌝ }
     requires { ⌜ SomeFitting (now schema) round p (now work) pointer (length (now out)) ⌝ }
     ensures { λ _. ⌜ ((S : Schema) (s : State) (σ : Bytes) → Fitting (now (schema .entry)) round p (now (work .entry)) pointer (length (now (out .entry))) S s σ
