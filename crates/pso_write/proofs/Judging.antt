@@ -1,0 +1,124 @@
+-- All rows are merged: the layout's own answer, and the file's length. Assumes nothing.
+use mathlib.Core.Path.{_≡_, refl, sym, ap, subst, _∙_}
+use mathlib.Core.Bool.{Bool, true, false, cond, _||_, false≢true, true≢false}
+use mathlib.Core.List.{List, [], _∷_, _++_, append-nil}
+use Prim.Native.Nat.{ℕ, _+_, _-_, _<_, _≤_}
+use native.Mathlib.Omega.{arith}
+use lib.Dec.{ltb}
+use lib.ListN.{length, take, replicate}
+use lib.Seq.{length-take-le}
+use Rattle.numbers.specs.Words.{Bytes}
+use Rattle.numbers.specs.Result.{Result, ok, refused}
+use Rattle.schema.specs.Defs.{Schema, Lookup, winning}
+use Rattle.layout.specs.State.{Remark, State, Out, done, stop, thin}
+use Rattle.layout.specs.Build as Build
+use Rattle.layout.specs.Build.{zeroRemark, packed, build}
+use Rattle.layout.proofs.Grows.{eventsOf}
+use Rattle.area.specs.declared.Round.{Round}
+use Rattle.area.specs.declared.Progress.{Progress}
+use Rattle.area.specs.Area.{Rep}
+use Rattle.area.specs.Posts.{gives, refuses, Meets}
+use Rattle.pso_write.specs.declared.Job.{Job}
+use Rattle.pso_write.specs.declared.Stage.{Stage}
+use Rattle.pso_write.specs.Files.{Measures}
+use Rattle.pso_write.specs.Rounds.{runOf, made, Standing, metIn, Laid}
+use Rattle.pso_write.specs.Merge.{refusalOf, endedAt, remarksIn, filled, Inv, turns, Goes, Judges}
+use Rattle.pso_write.proofs.Standings.{made-stop, made-done, fitted-long, fitted-fits}
+use Rattle.pso_write.proofs.Merges.{turns-last, closes}
+
+-- a refusal of the layout's own
+ended-badly : (S : Schema) (R : Round) (n size room : ℕ) (L : Lookup) (o : Out ℕ) (good : Bool) (value : ℕ) (p : Progress) (w : Bytes)
+    → Meets S R n (λ _. []) (λ a x. a ≡ x) o (cond good (gives value p) (refuses value p)) w → good ≡ false → length (thin (eventsOf o)) ≤ room → made L size room o ≡ refused value
+ended-badly S R n size room L (done a s) true value p w m g h = absurd (true≢false g)
+ended-badly S R n size room L (done a s) false value p w m g h = absurd m
+ended-badly S R n size room L (stop k es) true value p w m g h = absurd m
+ended-badly S R n size room L (stop k es) false value p w m g h = made-stop L size room k es h ∙ ap refused (sym (m .0))
+
+-- the layout ended well
+record Well (S : Schema) (R : Round) (n : ℕ) (o : Out ℕ) (value : ℕ) (p : Progress) (w : Bytes) : Type 0 where
+  state : State
+  rep : Rep S R n state [] p w
+  is : o ≡ done value state
+
+ended-well : (S : Schema) (R : Round) (n : ℕ) (o : Out ℕ) (good : Bool) (value : ℕ) (p : Progress) (w : Bytes)
+    → Meets S R n (λ _. []) (λ a x. a ≡ x) o (cond good (gives value p) (refuses value p)) w → good ≡ true → Well S R n o value p w
+ended-well S R n (done a s) true value p w m g = record { state = s; rep = m .0; is = ap (λ (x : ℕ). done x s) (m .1) }
+ended-well S R n (done a s) false value p w m g = absurd m
+ended-well S R n (stop k es) true value p w m g = absurd m
+ended-well S R n (stop k es) false value p w m g = absurd (false≢true g)
+
+module _ (F : Bytes) (size : ℕ) (st : Stage) (w : Bytes) where
+  refused-goes : (T : Bytes) (room : ℕ) (zs : List Remark) (k : ℕ) → build T F (length w) size room ≡ refused k → Goes T F size room (refusalOf k) zs w room
+  refused-goes T room zs k e = (closes T F size room k zs w e, omega (arith, turns-last room (refusalOf k) refl))
+
+  few : (room : ℕ) (zs es : List Remark) → length zs ≡ room → st .count ≤ room → take (st .count) zs ≡ thin es → length (thin es) ≡ st .count
+  few room zs es len h t = ap length (sym t) ∙ length-take-le (st .count) zs (omega (arith, h, len))
+
+  pub judge-bad : st .job .good ≡ false → Judges F size st w (refusalOf (st .job .value))
+  judge-bad g T room h zs len n t =
+      refused-goes T room zs (st .job .value)
+      (h .builds
+      ∙ ended-badly (h .rooted .schema) (st .job .round) (length w) size room (winning (h .rooted .schema)) (runOf T (h .rooted .schema) (h .rooted .def) (st .job .round))
+      (st .job .good) (st .job .value) (st .job .p) w (h .meets) g (omega (arith, few room zs (metIn h) len n t, n)))
+
+  module _ (len : ℕ) (good : st .job .good ≡ true) (measured : Measures F w (st .job .round) (st .job .p) len) where
+    abbrev Ended : (T : Bytes) (room : ℕ) → Standing T F size room (st .job) w → Type 0
+    Ended T room h = Well (h .rooted .schema) (st .job .round) (length w) (runOf T (h .rooted .schema) (h .rooted .def) (st .job .round)) (st .job .value) (st .job .p) w
+
+    well : (T : Bytes) (room : ℕ) (h : Standing T F size room (st .job) w) → Ended T room h
+    well T room h =
+        ended-well (h .rooted .schema) (st .job .round) (length w) (runOf T (h .rooted .schema) (h .rooted .def) (st .job .round)) (st .job .good) (st .job .value) (st .job .p) w (h .meets) good
+
+    met-is : (T : Bytes) (room : ℕ) (h : Standing T F size room (st .job) w) (e : Ended T room h) → metIn h ≡ e .state .events
+    met-is T room h e = ap eventsOf (e .is)
+
+    built : (T : Bytes) (room : ℕ) (h : Standing T F size room (st .job) w) (e : Ended T room h) → length (thin (metIn h)) ≤ room
+        → build T F (length w) size room ≡ Build.fitted size (packed (record { state = e .state; pointer = st .job .value; defs = winning (h .rooted .schema) }))
+    built T room h e l =
+        h .builds ∙ ap (made (winning (h .rooted .schema)) size room) (e .is)
+        ∙ made-done (winning (h .rooted .schema)) size room (st .job .value) (e .state) (subst (λ (es : List Remark). length (thin es) ≤ room) (met-is T room h e) l)
+
+    -- 13
+    pub judge-long : ltb size len || ltb 16777216 len ≡ true → Judges F size st w (refusalOf 13)
+    judge-long f T room h zs lz n t =
+        let e : Ended T room h = well T room h in
+        refused-goes T room zs 13
+        (built T room h e (omega (arith, few room zs (metIn h) lz n t, n))
+        ∙ fitted-long (winning (h .rooted .schema)) size (st .job .value) (e .state) len (measured (h .rooted .schema) (e .state) [] (st .job .value) (h .rooted .whole) (e .rep)) f)
+
+    pub judge-fits : len ≤ size → len ≤ 16777216 → Judges F size st w (endedAt st len)
+    unfolding filled packed
+    judge-fits f g T room h zs lz n t =
+        let e : Ended T room h = well T room h in
+        let k : length (thin (metIn h)) ≡ st .count = few room zs (metIn h) lz n t in
+        let m : len ≡ _ = measured (h .rooted .schema) (e .state) [] (st .job .value) (h .rooted .whole) (e .rep) in
+        let b : build T F (length w) size room ≡ ok (packed (record { state = e .state; pointer = st .job .value; defs = winning (h .rooted .schema) })) =
+            built T room h e (omega (arith, k, n)) ∙ fitted-fits (winning (h .rooted .schema)) size (st .job .value) (e .state) len m f g in
+        let r : remarksIn (build T F (length w) size room) ≡ thin (metIn h) = ap remarksIn b ∙ ap thin (sym (met-is T room h e)) in
+        let z : st .count - length (thin (metIn h)) ≡ 0 = omega (arith, k) in
+        (
+          (
+            λ q. absurd (true≢false q),
+            λ _. record {
+              closing = record {
+                counts = sym k ∙ ap length (sym r);
+                bad = λ q. absurd (true≢false (sym good ∙ q));
+                well = λ _. record {
+                  schema = h .rooted .schema;
+                  state = e .state;
+                  stack = [];
+                  whole = h .rooted .whole;
+                  safe = h .safe;
+                  rep = e .rep;
+                  long = m;
+                  fits = f;
+                  builds = b;
+                };
+              };
+              upto = n;
+              behind = omega arith;
+              front = t ∙ sym (append-nil (thin (metIn h))) ∙ ap (λ (i : ℕ). thin (metIn h) ++ replicate i zeroRemark) (sym z) ∙ ap (filled (st .count)) (sym r);
+            }
+          ),
+          omega (arith, turns-last room (endedAt st len) refl)
+        )
