@@ -25,7 +25,7 @@ use Rattle.pso_write.specs.declared.rounds.Opening.{Opening}
 use Rattle.pso_write.specs.declared.rounds.Opening.the-variants as O
 use Rattle.pso_write.specs.Answers.{answerOf, leaves}
 use Rattle.pso_write.specs.Files.{Writes, Wipes}
-use Rattle.pso_write.specs.Rounds.{Rooted, runOf, Laid}
+use Rattle.pso_write.specs.Rounds.{Roomy, Rooted, runOf, Laid}
 use Rattle.pso_write.specs.Merge.{refusalOf, remarksIn, filled, Closing, Closed, Inv, Takes, Opens, Begins, Ends}
 use Rattle.pso_write.proofs.Merges.{closes}
 
@@ -40,6 +40,14 @@ module _ (T F : Bytes) (size room : ℕ) where
   -- a refusal before the layout
   pub begin-refused : (w : Bytes) (n k : ℕ) → length w ≡ n → Opens T F n (O.Refused k) → Begins T F size room (refusalOf k) w
   begin-refused w n k l o zs len = closes T F size room k zs w (ap (λ (m : ℕ). build T F m size room) l ∙ o size room)
+
+  -- the first round can run in the cleared area
+  pub begin-ready : (w w' : Bytes) (R : Round) (place name : ℕ) → w' ≡ over w 0 (zeros (length w)) → Opens T F (length w) (O.Go R place name)
+      → Roomy R (length w') × (w' ≡ zeros (length w')) × Rooted F R place name
+  begin-ready w w' R place name e o =
+      let z : w' ≡ zeros (length w) = e ∙ cleared w in
+      let l : length w' ≡ length w = ap length z ∙ length-zeros (length w) in
+      (subst (Roomy R) (sym l) (o .1 .0), z ∙ ap zeros (sym l), o .0)
 
   -- the first round
   pub begin-round : (w : Bytes) (n : ℕ) (R : Round) (place name : ℕ) → length w ≡ n → Opens T F n (O.Go R place name) → (r : Stage) → Takes T F size room R place name 0 r w

@@ -10,7 +10,7 @@ use lib.Dec.{eqb, ltb}
 use lib.ListN.{length, getD, take, drop, set, replicate, length-append, length-set, drop-of-length-le, replicate-append-replicate}
 use lib.Seq.{length-take-le, take-suc-set, getD-take, set-getD, getD-set-same, getD-set-other}
 use borrow.Author.Count.{below-more}
-use borrow.Author.Tests.{eqb-true, eqb-false, ltb-true, ltb-false}
+use borrow.Author.Tests.{eq-eqb, ne-eqb, eqb-true, eqb-false, lt-ltb, le-ltb, ltb-true, ltb-false}
 use Rattle.numbers.specs.Words.{Bytes}
 use Rattle.numbers.specs.Result.{refused}
 use Rattle.layout.specs.State.{Remark, sameRemark, remarked, noted, thinned, thin}
@@ -42,6 +42,20 @@ turns-fall room st n l h a b =
     let e : st .job .p .rows - st .row + m ≡ suc y = omega (arith, h) in
     let p : (st .job .p .rows - st .row + m) * (room + 1) ≡ y * (room + 1) + (room + 1) = ap (λ (k : ℕ). k * (room + 1)) e ∙ suc-mul y (room + 1) in
     omega (arith, turns-seeking room st l, p, b, a)
+
+-- the code's ways
+module _ (room : ℕ) (st : Stage) (k : ℕ) where
+  pub sought-before : k < st .base → movedTo st k ≡ soughtAt room st k
+  unfolding soughtAt
+  sought-before h = rw (lt-ltb k (st .base) h) refl
+
+  pub sought-full : (r : Stage) → r ≡ refusalOf 14 → st .base ≤ k → st .count ≡ room → r ≡ soughtAt room st k
+  unfolding soughtAt
+  sought-full r e h q = rw (le-ltb k (st .base) h, eq-eqb (st .count) room q) e
+
+  pub sought-behind : st .base ≤ k → (st .count ≡ room → ⊥) → movedTo st (st .count) ≡ soughtAt room st k
+  unfolding soughtAt
+  sought-behind h q = rw (le-ltb k (st .base) h, ne-eqb (st .count) room q) refl
 
 module _ (T F : Bytes) (size room : ℕ) where
   -- a refusal

@@ -9,7 +9,7 @@ use lib.Dec.{ltb}
 use lib.ListN.{length, getD, take, drop, drop-of-length-le}
 use borrow.Author.Count.{below-none}
 use borrow.Author.Tests.{ltb-true, ltb-false}
-use Rattle.numbers.specs.Words.{Bytes}
+use Rattle.numbers.specs.Words.{Bytes, zeros}
 use Rattle.schema.specs.Defs.{winning}
 use Rattle.layout.specs.State.{Remark, sameRemark, thinned, thin}
 use Rattle.layout.specs.Build.{zeroRemark, build}
@@ -22,10 +22,11 @@ use Rattle.pso_write.specs.declared.Job.{Job}
 use Rattle.pso_write.specs.declared.Stage.{Stage}
 use Rattle.pso_write.specs.declared.run.Ran.{Ran}
 use Rattle.pso_write.specs.declared.run.Ran.the-variants.{Done, Refused}
-use Rattle.pso_write.specs.Rounds.{Rooted, runOf, ranIs, numbersOf, Runs, made, answerIn, Standing, metIn}
+use Rattle.pso_write.specs.Files.{Wipes}
+use Rattle.pso_write.specs.Rounds.{Roomy, Rooted, runOf, ranIs, numbersOf, Runs, made, answerIn, Standing, metIn}
 use Rattle.pso_write.specs.Merge.{withRow, soughtAt, jobOf, takenAt, rowOf, Fit, Left, Inv, bound, turns, Goes, Judges, Takes, Passes}
 use Rattle.pso_write.proofs.Thinning.{rejoin}
-use Rattle.pso_write.proofs.Standings.{seen-is, rows-kept, next-within, next-after, rows-fewer, rows-fill, length-rowsIn}
+use Rattle.pso_write.proofs.Standings.{standing, seen-is, rows-kept, next-within, next-after, rows-fewer, rows-fill, length-rowsIn}
 use Rattle.pso_write.proofs.Merges.{sought}
 
 -- a round without rows has met no remark that it does not account for
@@ -67,9 +68,24 @@ module _ (T F : Bytes) (size room : ℕ) where
         let x = judges T room (h .stands) zs len (h .count) (ap (thinned (take (st .count) zs)) (sym o) ∙ none-left l zs es left) in
         (x .0, omega (arith, x .1))
 
+    abbrev again : Round
+    again = record { entries = st .job .round .entries; cap = st .job .round .cap; skip = st .job .p .next }
+
+    -- another round can run in the wiped area
+    pub round-again : Fit T F w size room st → (w' : Bytes) → length w' ≡ length w → Wipes w (st .job .round) (st .job .p) w'
+        → Roomy again (length w') × (w' ≡ zeros (length w')) × Rooted F again (st .job .place) (st .job .name)
+    round-again h w' lw wipes =
+        let k = h .stands .rooted in
+        let s = standing (h .stands) in
+        (
+          (h .stands .safe .small, omega (arith, h .stands .safe .room, lw)),
+          wipes (k .schema) (s .state) (s .stack) (s .rep) ∙ ap zeros (sym lw),
+          record { schema = k .schema; def = k .def; whole = k .whole; entries = k .entries; wins = k .wins; found = k .found }
+        )
+
     -- another round
     pub pass-round : st .job .p .rows ≤ st .row + 1 → (w' : Bytes) → length w' ≡ length w → (r : Stage)
-        → Takes T F size room (record { entries = st .job .round .entries; cap = st .job .round .cap; skip = st .job .p .next }) (st .job .place) (st .job .name) (st .count) r w'
+        → Takes T F size room again (st .job .place) (st .job .name) (st .count) r w'
         → Passes T F size room st w r w'
     pass-round l w' lw r takes h zs len left own =
         let k = h .stands .rooted in
@@ -129,6 +145,13 @@ module _ (T F : Bytes) (size room : ℕ) where
 
     abbrev Took : Stage → Type 0
     Took r = Takes T F size room R place name count r w
+
+    pub run-at : (n : ℕ) (ran : Ran) → length w ≡ n → Runs T F R n name ran w → Runs T F R (length w) name ran w
+    run-at n ran e runs = subst (λ (m : ℕ). Runs T F R m name ran w) (sym e) runs
+
+    pub run-safe : (ran : Ran) → Runs T F R (length w) name ran w → (j : Job) → j ≡ jobOf ran R place name → Safe (j .round) (length w) (j .p)
+    run-safe (Done x p) runs j e = subst (λ (i : Job). Safe (i .round) (length w) (i .p)) (sym e) (runs .safe)
+    run-safe (Refused x p) runs j e = subst (λ (i : Job). Safe (i .round) (length w) (i .p)) (sym e) (runs .safe)
 
     -- its rows are to be merged
     pub take-some : (ran : Ran) → Runs T F R (length w) name ran w → (j : Job) → j ≡ jobOf ran R place name → 0 < j .p .rows → Took (soughtAt room (takenAt j count) 0)

@@ -1,3 +1,9 @@
+use mathlib.Core.Bool.{or-true}
+use Rattle.pso_write.proofs.Judging.{judge-bad, judge-long, judge-fits}
+use Rattle.pso_write.specs.Merge.{Judges}
+use borrow.Author.Tests.{lt-ltb, not-true, not-false}
+use lib.Dec.{ltb}
+use mathlib.Core.Path.{sym, subst, refl}
 use borrow.Author.Needs.{needs}
 use Rattle.pso_write.proofs.rounds.judged.Statement.{statement}
 use Rattle.pso_write.proofs.rounds.judged.Tie as tie
@@ -12,7 +18,9 @@ refusal-requires c κs = search needs
 
 -- src/rounds.rt:176:9
 returns : tie.Need-returns
-returns c = ?
+returns c =
+    let a = c .before .before .before .before .before .before .args in
+    subst (Judges (a .schema .now) (a .size) (a .st) (a .work .now)) (sym (c .refusal .ensures)) (judge-bad (a .schema .now) (a .size) (a .st) (a .work .now) (not-true (a .st .job .good) (c .before .if1 .taken)))
 
 -- src/rounds.rt:178:9
 file-length-requires : tie.Need-file-length-requires
@@ -24,7 +32,11 @@ refusal-requires-2 c κs = search needs
 
 -- src/rounds.rt:180:9
 returns-2 : tie.Need-returns-2
-returns-2 c = ?
+returns-2 c =
+    let a = c .before .before .before .before .before .before .before .before .args in
+    let n = c .before .before .file-length in
+    subst (Judges (a .schema .now) (a .size) (a .st) (a .work .now)) (sym (c .refusal2 .ensures))
+    (judge-long (a .schema .now) (a .size) (a .st) (a .work .now) (n .result) (not-false (a .st .job .good) (c .before .before .before .if1 .left)) (n .ensures) (rw (lt-ltb (a .size) (n .result) (c .before .if2 .taken)) refl))
 
 -- src/rounds.rt:183:9
 refusal-requires-3 : tie.Need-refusal-requires-3
@@ -32,11 +44,18 @@ refusal-requires-3 c κs = search needs
 
 -- src/rounds.rt:183:9
 returns-3 : tie.Need-returns-3
-returns-3 c = ?
+returns-3 c =
+    let a = c .before .before .before .before .before .before .before .before .before .args in
+    let n = c .before .before .before .file-length in
+    subst (Judges (a .schema .now) (a .size) (a .st) (a .work .now)) (sym (c .refusal3 .ensures))
+    (judge-long (a .schema .now) (a .size) (a .st) (a .work .now) (n .result) (not-false (a .st .job .good) (c .before .before .before .before .if1 .left)) (n .ensures) (rw (lt-ltb 16777216 (n .result) (c .before .if3 .taken)) (or-true (ltb (a .size) (n .result)))))
 
 -- src/rounds.rt:170:1
 returns-4 : tie.Need-returns-4
-returns-4 c = ?
+returns-4 c =
+    let a = c .before .before .before .before .before .before .before .before .args in
+    let n = c .before .before .file-length in
+    judge-fits (a .schema .now) (a .size) (a .st) (a .work .now) (n .result) (not-false (a .st .job .good) (c .before .before .before .if1 .left)) (n .ensures) (c .before .if2 .left) (c .if3 .left)
 
 pub judged-spec : {M : Type 1} → statement M
 judged-spec =

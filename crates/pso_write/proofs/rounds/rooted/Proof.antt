@@ -1,3 +1,5 @@
+use Rattle.pso_write.proofs.Openings.{root-found, root-unknown}
+use mathlib.Core.Path.{ap}
 use borrow.Author.Needs.{needs}
 use Rattle.pso_write.proofs.rounds.rooted.Statement.{statement}
 use Rattle.pso_write.proofs.rounds.rooted.Tie as tie
@@ -29,11 +31,18 @@ roomed-requires c κs = search needs
 
 -- src/rounds.rt:56:1
 returns : tie.Need-returns
-returns c = ?
+returns c =
+    let a = c .before .before .before .before .before .before .args in
+    let q = c .before .before .find-structure in
+    λ S w i s. root-unknown (a .sheet .now) (a .schema .now) S (a .work) (c .before .before .before .read-row .result .a) s w (ap (λ v. v .a) (c .before .before .before .read-row .ensures)) (q .result) (c .enum-told .given .1) (q .ensures .1 S w)
 
 -- src/rounds.rt:56:1
 returns-2 : tie.Need-returns-2
-returns-2 c = ?
+returns-2 c =
+    let a = c .before .before .before .before .before .before .before .before .args in
+    let q = c .before .before .before .before .find-structure in
+    λ S w i s. root-found (a .sheet .now) (a .schema .now) S (a .work) (c .before .before .before .before .before .read-row .result .a) s w (ap (λ v. v .a) (c .before .before .before .before .before .read-row .ensures)) (q .result) (c .before .before .place .given .0 .0) (c .before .before .place .given .1)
+    (q .ensures .0) (q .ensures .1 S w) (a .entries) i (c .roomed .result) (c .roomed .ensures)
 
 pub rooted-spec : {M : Type 1} → statement M
 rooted-spec =

@@ -1,3 +1,4 @@
+use Rattle.pso_write.proofs.Openings.{schema-bad, schema-good}
 use borrow.Author.Needs.{needs}
 use Rattle.pso_write.proofs.rounds.schemed.Statement.{statement}
 use Rattle.pso_write.proofs.rounds.schemed.Tie as tie
@@ -24,11 +25,18 @@ rooted-requires c κs = search needs
 
 -- src/rounds.rt:69:1
 returns : tie.Need-returns
-returns c = ?
+returns c =
+    let a = c .before .before .before .before .before .before .args in
+    let q = c .before .before .before .check-schema in
+    schema-bad (a .sheet .now) (a .schema .now) (a .work) (c .before .k .given .0 .0) (q .result) (q .ensures) (c .before .k .given .1)
 
 -- src/rounds.rt:69:1
 returns-2 : tie.Need-returns-2
-returns-2 c = ?
+returns-2 c =
+    let a = c .before .before .before .before .before .before .before .args in
+    let q = c .before .before .before .before .check-schema in
+    let s = schema-good (a .schema .now) (c .before .before .entries .given .0 .0) (q .result) (q .ensures) (c .before .before .entries .given .1) in
+    c .rooted .ensures (s .0) (s .1 .0) (s .1 .1)
 
 pub schemed-spec : {M : Type 1} → statement M
 schemed-spec =

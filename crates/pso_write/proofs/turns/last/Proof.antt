@@ -1,3 +1,5 @@
+use Rattle.pso_write.proofs.Endings.{cleared, end-refused, end-file}
+use mathlib.Core.Path.{_∙_}
 use borrow.Author.Needs.{needs}
 use Rattle.pso_write.proofs.turns.last.Statement.{statement}
 use Rattle.pso_write.proofs.turns.last.Tie as tie
@@ -9,11 +11,11 @@ use Rattle.pso_write.proofs.file.wipe.Reads as wipe-reads
 
 -- src/turns.rt:90:9
 put-file-requires : tie.Need-put-file-requires
-put-file-requires c κs = ?
+put-file-requires c κs = c .before .before .before .before .before .before .before .before .pre .well (c .before .before .if1 .taken) .safe
 
 -- src/turns.rt:91:9
 wipe-requires : tie.Need-wipe-requires
-wipe-requires c κs = ?
+wipe-requires c κs = c .before .before .before .before .before .before .before .before .before .before .before .before .pre .well (c .before .before .before .before .before .before .if1 .taken) .safe
 
 -- src/turns.rt:92:9
 same-length : tie.Need-same-length
@@ -25,7 +27,11 @@ same-length-2 c = search needs
 
 -- src/turns.rt:92:9
 returns : tie.Need-returns
-returns c = ?
+returns c =
+    let s = c .before .before .before .before .before .before .before .before .before .before .before .before .before .before .before in
+    let a = s .args in
+    end-file (a .sheet .now) (a .schema .now) (a .out .now) (a .work .now) (a .room) (a .st .length) (a .st .count) (a .st .job) (s .pre) (c .before .before .before .before .before .before .before .before .before .if1 .taken)
+    (c .before .before .before .before .before .before .put-file .last .1 .1 .1 .1 .1 .0) (c .before .before .wipe .last .0) (c .before .before .before .before .before .before .put-file .ensures) (c .before .before .wipe .ensures)
 
 -- src/turns.rt:95:5
 clear-requires : tie.Need-clear-requires
@@ -37,7 +43,11 @@ same-length-3 c = search needs
 
 -- src/turns.rt:84:1
 returns-2 : tie.Need-returns-2
-returns-2 c = ?
+returns-2 c =
+    let s = c .before .before .before .before .before .before .before .before .before .before in
+    let a = s .args in
+    end-refused (a .sheet .now) (a .schema .now) (a .out .now) (a .work .now) (a .room) (a .st .length) (a .st .count) (a .st .job) (s .pre) (c .before .before .before .before .if1 .left)
+    (c .before .before .clear .last .0) (c .before .before .clear .ensures ∙ cleared (a .work .now))
 
 pub last-spec : {M : Type 1} → statement M
 last-spec =

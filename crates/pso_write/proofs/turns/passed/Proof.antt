@@ -1,3 +1,6 @@
+use Rattle.pso_write.proofs.Passing.{pass-next, pass-end, round-again, pass-round}
+use Rattle.pso_write.specs.Merge.{Passes}
+use mathlib.Core.Path.{sym, subst, _∙_}
 use borrow.Author.Needs.{needs}
 use Rattle.pso_write.proofs.turns.passed.Statement.{statement}
 use Rattle.pso_write.proofs.turns.passed.Tie as tie
@@ -22,7 +25,10 @@ seek-requires c κs = search needs
 
 -- src/turns.rt:42:9
 returns : tie.Need-returns
-returns c = ?
+returns c =
+    let a = c .before .before .before .before .before .before .before .before .before .args in
+    subst (λ r. Passes (a .sheet .now) (a .schema .now) (a .size) (a .room) (a .st) (a .work .now) r (a .work .now)) (sym (c .seek .ensures))
+    (pass-next (a .sheet .now) (a .schema .now) (a .size) (a .room) (a .st) (a .work .now) (c .before .before .if1 .taken))
 
 -- src/turns.rt:45:9
 judged-requires : tie.Need-judged-requires
@@ -34,7 +40,9 @@ same-length c = search needs
 
 -- src/turns.rt:45:9
 returns-2 : tie.Need-returns-2
-returns-2 c = ?
+returns-2 c =
+    let a = c .before .before .before .before .before .before .before .before .before .before .before .args in
+    pass-end (a .sheet .now) (a .schema .now) (a .size) (a .room) (a .st) (a .work .now) (c .before .before .before .before .if1 .left) (c .before .before .if2 .taken) (c .judged .result) (c .judged .ensures)
 
 -- src/turns.rt:47:5
 wipe-requires : tie.Need-wipe-requires
@@ -42,7 +50,9 @@ wipe-requires c κs = search needs
 
 -- src/turns.rt:50:5
 take-round-requires : tie.Need-take-round-requires
-take-round-requires c κs = ?
+take-round-requires c κs =
+    let a = c .before .before .before .before .before .before .before .before .before .before .before .before .before .before .before .args in
+    round-again (a .sheet .now) (a .schema .now) (a .size) (a .room) (a .st) (a .work .now) (c .before .before .before .before .before .before .before .before .before .before .before .before .before .before .before .pre) (c .before .before .before .before .wipe .last .0) (c .before .before .before .work .given) (c .before .before .before .before .wipe .ensures)
 
 -- src/turns.rt:34:1
 same-length-2 : tie.Need-same-length-2
@@ -50,7 +60,10 @@ same-length-2 c = search needs
 
 -- src/turns.rt:34:1
 returns-3 : tie.Need-returns-3
-returns-3 c = ?
+returns-3 c =
+    let a = c .before .before .before .before .before .before .before .before .before .before .before .before .before .before .before .before .before .before .args in
+    let t = c .before .before .take-round in
+    pass-round (a .sheet .now) (a .schema .now) (a .size) (a .room) (a .st) (a .work .now) (c .before .before .before .before .before .before .before .before .before .before .before .if1 .left) (t .last .1 .1 .0) (c .before .work2 .given ∙ c .before .before .before .before .before .before .work .given) (t .result) (t .ensures)
 
 pub passed-spec : {M : Type 1} → statement M
 passed-spec =
