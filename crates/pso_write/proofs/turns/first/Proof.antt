@@ -47,7 +47,7 @@ same-length c = search needs
 -- src/turns.rt:22:1
 returns : tie.Need-returns
 returns c =
-    let a = c .before .before .before .before .before .before .before .before .before .before .before .args in
+    let a = c .before .before .before .before .before .before .before .before .before .before .before .before .args in
     let w = c .before .before .before .before .before .before .before .clear .last .0 in
     let g = c .before .before .k .given in
     subst (λ r. Begins (a .sheet .now) (a .schema .now) (a .size) (a .room) r w) (sym (c .refusal .ensures))
