@@ -107,7 +107,7 @@ module _ (d : StructDef) where
   abbrev counted : Bytes
   counted = bytesOf 2 (length (d .members)) ++ (sized ++ ms)
 
-  struct-length : length (structBytes d) ≡ 12 + 12 * length (d .members)
+  pub struct-length : length (structBytes d) ≡ 12 + 12 * length (d .members)
   unfolding structBytes
   struct-length =
       omega (
@@ -163,7 +163,7 @@ module _ (d : EnumDef) where
   abbrev es : Bytes
   es = joined (map entryBytes (d .entries))
 
-  enum-length : length (enumBytes d) ≡ 4 + 8 * length (d .entries)
+  pub enum-length : length (enumBytes d) ≡ 4 + 8 * length (d .entries)
   unfolding enumBytes
   enum-length =
       omega (
@@ -249,7 +249,7 @@ defs-back P (d ∷ ds) i at f h s t =
     word : (k j : ℕ) → k < 2 → i + 4 * k ≡ j → readAt 4 P j ≡ getD ws k 0
     word k j g q = word-at P i ws (name-fits d (f .0), (low, tt)) (left P (words ws) (indexOf (at + length (r .1)) rs) i s) k j g q
 
-index-length : (at : ℕ) (rs : Records) → length (indexOf at rs) ≡ 8 * length rs
+pub index-length : (at : ℕ) (rs : Records) → length (indexOf at rs) ≡ 8 * length rs
 unfolding indexOf
 index-length at [] = refl
 index-length at (r ∷ rs) =
@@ -262,7 +262,7 @@ index-length at (r ∷ rs) =
 
 -- the section
 
-module _ (rs : Records) (h : length (pschBytes rs) < 256 ^ 4) where
+module _ (rs : Records) where
   abbrev first : ℕ
   first = 12 + 8 * length rs
 
@@ -280,28 +280,29 @@ module _ (rs : Records) (h : length (pschBytes rs) < 256 ^ 4) where
         index-length first rs,
       )
 
-  psch-word : (k j : ℕ) → k < 3 → 0 + 4 * k ≡ j → readAt 4 (pschBytes rs) j ≡ getD heads k 0
+module _ (rs : Records) (h : length (pschBytes rs) < 256 ^ 4) where
+  psch-word : (k j : ℕ) → k < 3 → 0 + 4 * k ≡ j → readAt 4 (pschBytes rs) j ≡ getD (heads rs) k 0
   unfolding pschBytes
   psch-word k j g q =
-      word-at (pschBytes rs) 0 heads (omega arith, (omega (arith, h, psch-length), (omega (arith, h, psch-length), tt)))
-      (left (pschBytes rs) (words heads) (indexOf first rs ++ bodies rs) 0 (all-of (pschBytes rs))) k j g q
+      word-at (pschBytes rs) 0 (heads rs) (omega arith, (omega (arith, h, psch-length rs), (omega (arith, h, psch-length rs), tt)))
+      (left (pschBytes rs) (words (heads rs)) (indexOf (first rs) rs ++ bodies rs) 0 (all-of (pschBytes rs))) k j g q
 
-  psch-rest : Stands (pschBytes rs) 12 (indexOf first rs ++ bodies rs)
+  psch-rest : Stands (pschBytes rs) 12 (indexOf (first rs) rs ++ bodies rs)
   unfolding pschBytes
-  psch-rest = next (pschBytes rs) (words heads) (indexOf first rs ++ bodies rs) 0 12 12 (length-words heads) refl (all-of (pschBytes rs))
+  psch-rest = next (pschBytes rs) (words (heads rs)) (indexOf (first rs) rs ++ bodies rs) 0 12 12 (length-words (heads rs)) refl (all-of (pschBytes rs))
 
-  psch-index : Stands (pschBytes rs) 12 (indexOf first rs)
-  psch-index = left (pschBytes rs) (indexOf first rs) (bodies rs) 12 psch-rest
+  psch-index : Stands (pschBytes rs) 12 (indexOf (first rs) rs)
+  psch-index = left (pschBytes rs) (indexOf (first rs) rs) (bodies rs) 12 psch-rest
 
-  psch-bodies : Stands (pschBytes rs) first (bodies rs)
-  psch-bodies = next (pschBytes rs) (indexOf first rs) (bodies rs) 12 first (8 * length rs) (index-length first rs) refl psch-rest
+  psch-bodies : Stands (pschBytes rs) (first rs) (bodies rs)
+  psch-bodies = next (pschBytes rs) (indexOf (first rs) rs) (bodies rs) 12 (first rs) (8 * length rs) (index-length (first rs) rs) refl psch-rest
 
   pub psch-headed : Headed PSCH (pschBytes rs)
   psch-headed =
       record {
         named = psch-word 0 0 (omega arith) (omega arith);
-        measured = psch-word 1 4 (omega arith) (omega arith) ∙ sym psch-length;
-        eight = omega (arith, psch-length);
+        measured = psch-word 1 4 (omega arith) (omega arith) ∙ sym (psch-length rs);
+        eight = omega (arith, psch-length rs);
       }
 
   psch-count : readAt 4 (pschBytes rs) 8 ≡ length rs
@@ -310,13 +311,13 @@ module _ (rs : Records) (h : length (pschBytes rs) < 256 ^ 4) where
   psch-opens : (n : ℕ) → n ≡ length rs → pschOf (pschBytes rs) ≡ defsFrom (pschBytes rs) n 12
   unfolding pschOf
   psch-opens n e =
-      rw (psch-count, inside (pschBytes rs) 12 1 0 (omega (arith, psch-length)), inside (pschBytes rs) 8 (length rs) 12 (omega (arith, psch-length)), e)
+      rw (psch-count, inside (pschBytes rs) 12 1 0 (omega (arith, psch-length rs)), inside (pschBytes rs) 8 (length rs) 12 (omega (arith, psch-length rs)), e)
 
 -- what PSCH is written with
 pub psch-back : (ds : List Def) → All DefFits ds → length (pschBytes (map recordOf ds)) < 256 ^ 4 → pschOf (pschBytes (map recordOf ds)) ≡ ok ds
 psch-back ds f h =
     let rs = map recordOf ds in
-    psch-opens rs h (length ds) (sym (length-map ds recordOf)) ∙ defs-back (pschBytes rs) ds 12 (first rs h) f h (psch-index rs h) (psch-bodies rs h)
+    psch-opens rs h (length ds) (sym (length-map ds recordOf)) ∙ defs-back (pschBytes rs) ds 12 (first rs) f h (psch-index rs h) (psch-bodies rs h)
 
 -- "used structures, used enums"
 

@@ -2,19 +2,24 @@
 -- Assumes nothing.
 use Prim.Native.Nat.{ℕ, zero, suc, _+_, _≤_, _<_}
 use native.Mathlib.Omega.{arith}
-use mathlib.Core.Path.{_≡_, refl, ap}
+use mathlib.Core.Path.{_≡_, refl, ap, subst}
 use mathlib.Core.Bool.{Bool, true, false, cond, _&&_}
 use mathlib.Core.List.{List, [], _∷_, _++_, append-nil}
+use mathlib.Core.Option.{some}
 use lib.Dec.{eqb, leb}
 use lib.ListN.{length}
 use borrow.Author.Tests.{eqb-true, eqb-false, leb-true}
 use Rattle.numbers.specs.Words.{Bytes}
-use Rattle.layout.specs.State.{Item, Block, Core, Env, Spot, spot, past, file, maxBlock, useStructC, useEnumC}
+use Rattle.value.specs.Rows.{Fields}
+use Rattle.schema.specs.Defs.{StructDef}
+use Rattle.layout.specs.State.{Item, Block, Core, State, emptyState, Env, done, Spot, spot, past, file, maxBlock, useStructC, useEnumC}
 use Rattle.layout.specs.Assemble.{itemsIn}
+use Rattle.layout.specs.Write.{root}
 use Rattle.layout.specs.Build.{Laid}
 use Rattle.layout.specs.Demand3.{ItemsTile, pointerOf, pointerBlock, pointerStart}
 use Rattle.layout.proofs.Items.{itemsIn-append, tile-snoc}
-use Rattle.layout.proofs.Writers.{Prims}
+use Rattle.layout.proofs.Keep.{Okay, Keeps}
+use Rattle.layout.proofs.Writers.{Prims, k-root}
 use Rattle.layout.proofs.CoreOnly.{Any, allows-any, onCore, core-prims}
 use Rattle.layout.proofs.Made.{Made, envOf, reached}
 
@@ -119,6 +124,12 @@ tiled-prims E =
 pub tiled : (T S : Bytes) (work : ℕ) (l : Laid) → Made T S work l → Tiled (l .state .core)
 unfolding itemsIn lenAt
 tiled T S work l m = reached T S work l m (onCore Any Tiled) (tiled-prims (envOf T (m .schema) work)) (record { tiles = λ k. refl; within = tt })
+
+-- of every run of the root that comes to an end
+pub root-tiled : (E : Env) (name : ℕ) (d : StructDef) (fs : Fields) (pointer : ℕ) (s : State) → E .defs .struct name ≡ some d → root E d fs emptyState ≡ done pointer s → Tiled (s .core)
+unfolding Keeps itemsIn lenAt
+root-tiled E name d fs pointer s e r =
+    subst (Okay (onCore Any Tiled)) r (k-root E (onCore Any Tiled) (tiled-prims E) d fs (tiled-prims E .found name d e .0) emptyState (record { tiles = λ k. refl; within = tt }))
 
 -- the number formed when an item is laid says its block and its start
 
