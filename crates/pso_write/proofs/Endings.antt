@@ -9,8 +9,8 @@ use lib.ListN.{length, take, drop, replicate, drop-of-length-le}
 use lib.Seq.{take-all}
 use Rattle.numbers.specs.Words.{Bytes, over, zeros}
 use Rattle.numbers.specs.Result.{Result, ok, refused}
-use Rattle.schema.specs.Defs.{winning}
-use Rattle.layout.specs.State.{Remark, thinned, thin}
+use Rattle.schema.specs.Defs.{Schema, winning}
+use Rattle.layout.specs.State.{Remark, State, thinned, thin}
 use Rattle.layout.specs.Assemble.{fileOf}
 use Rattle.layout.specs.Build as Build
 use Rattle.layout.specs.Build.{Answer, success, refusal, After, zeroRemark, packed, build, afterwards, buildPso}
@@ -24,7 +24,7 @@ use Rattle.pso_write.specs.declared.Stage.{Stage}
 use Rattle.pso_write.specs.declared.rounds.Opening.{Opening}
 use Rattle.pso_write.specs.declared.rounds.Opening.the-variants as O
 use Rattle.pso_write.specs.Answers.{answerOf, leaves}
-use Rattle.pso_write.specs.Files.{Writes, Wipes}
+use Rattle.pso_write.specs.Files.{Fitting, SomeFitting, InUse}
 use Rattle.pso_write.specs.Rounds.{Roomy, Rooted, runOf, Laid}
 use Rattle.pso_write.specs.Merge.{refusalOf, remarksIn, filled, Closing, Closed, Inv, Takes, Opens, Begins, Ends}
 use Rattle.pso_write.proofs.Merges.{closes}
@@ -35,6 +35,11 @@ unfolding over
 cleared w =
     let l : length w ≤ 0 + length (zeros (length w)) = omega (arith, length-zeros (length w)) in
     ap (λ (x : Bytes). zeros (length w) ++ x) (drop-of-length-le w l) ∙ append-nil (zeros (length w))
+
+-- bytes written to the front
+over-front : (out b : Bytes) → over out 0 b ≡ b ++ drop (length b) out
+unfolding over
+over-front out b = let e : 0 + length b ≡ length b = omega arith in ap (λ (k : ℕ). b ++ drop k out) e
 
 module _ (T F : Bytes) (size room : ℕ) where
   -- a refusal before the layout
@@ -71,18 +76,37 @@ module _ (T F out w : Bytes) (room len count : ℕ) (j : Job) (h : Closing T F (
         e
       )
 
+  -- the file fits
+  fitting : j .good ≡ true → (l : Laid T F (length out) room j len w) → Fitting F (j .round) (j .p) w (j .value) (length out) (l .schema) (l .state) (l .stack)
+  fitting g l =
+      record {
+        holds = record { schema = l .whole; rep = l .rep; tiled = l .tiled };
+        fits = subst (λ (n : ℕ). n ≤ length out) (l .long) (l .fits);
+        small = subst (λ (n : ℕ). n ≤ 16777216) (l .long) (l .small);
+      }
+
+  pub some-fitting : j .good ≡ true → SomeFitting F (j .round) (j .p) w (j .value) (length out)
+  some-fitting g =
+      let l : Laid T F (length out) room j len w = h .well g in
+      record { schema = l .schema; state = l .state; stack = l .stack; fitting = fitting g l }
+
   -- the file
-  pub end-file : j .good ≡ true → (out' w' : Bytes) → Writes F w (j .round) (j .p) (j .value) out out' → Wipes w (j .round) (j .p) w'
+  pub end-file : j .good ≡ true → (out' w₁ w' : Bytes)
+      → ((S : Schema) (s : State) (σ : Bytes) → Fitting F (j .round) (j .p) w (j .value) (length out) S s σ
+      → (out' ≡ over out 0 (fileOf (winning S) (j .value) (s .core))) × InUse S (j .round) (length w) (j .p) w₁)
+      → length w₁ ≡ length w → ((S : Schema) → InUse S (j .round) (length w₁) (j .p) w₁ → w' ≡ zeros (length w₁))
       → Ends T F room (length w) out (File len count) out' w'
   unfolding buildPso afterwards packed
-  end-file g out' w' writes wipes =
+  end-file g out' w₁ w' writes l₁ wipes =
       let l : Laid T F (length out) room j len w = h .well g in
       let b = l .builds in
       let c : count ≡ length (thin (l .state .events)) = h .counts ∙ ap (λ x. length (remarksIn x)) b in
+      let p = writes (l .schema) (l .state) (l .stack) (fitting g l) in
       (
-        ap (λ (n : ℕ). success n count) (l .long) ∙ ap (λ (k : ℕ). success (length (fileOf (winning (l .schema)) (j .value) (l .state .core))) k) c ∙ ap (λ x. afterwards (length w) out room x .answer) (sym b),
-        writes (l .schema) (l .state) (l .stack) (l .whole) (l .rep) (subst (λ (n : ℕ). n ≤ length out) (l .long) (l .fits)) ∙ ap (λ x. afterwards (length w) out room x .output) (sym b),
-        wipes (l .schema) (l .state) (l .stack) (l .rep)
+        ap (λ (n : ℕ). success n count) (l .long) ∙ ap (λ (k : ℕ). success (length (fileOf (winning (l .schema)) (j .value) (l .state .core))) k) c
+        ∙ ap (λ x. afterwards (length w) out room x .answer) (sym b),
+        p .0 ∙ over-front out (fileOf (winning (l .schema)) (j .value) (l .state .core)) ∙ ap (λ x. afterwards (length w) out room x .output) (sym b),
+        wipes (l .schema) (subst (λ (n : ℕ). InUse (l .schema) (j .round) n (j .p) w₁) (sym l₁) (p .1)) ∙ ap zeros l₁
       )
 
 -- the list at the end

@@ -1,26 +1,30 @@
 -- All rows are merged: the layout's own answer, and the file's length. Assumes nothing.
 use mathlib.Core.Path.{_≡_, refl, sym, ap, subst, _∙_}
-use mathlib.Core.Bool.{Bool, true, false, cond, _||_, false≢true, true≢false}
+use mathlib.Core.Bool.{Bool, true, false, cond, _||_, or-true, false≢true, true≢false}
 use mathlib.Core.List.{List, [], _∷_, _++_, append-nil}
 use Prim.Native.Nat.{ℕ, _+_, _-_, _<_, _≤_}
 use native.Mathlib.Omega.{arith}
 use lib.Dec.{ltb}
 use lib.ListN.{length, take, replicate}
 use lib.Seq.{length-take-le}
+use borrow.Author.Tests.{lt-ltb}
 use Rattle.numbers.specs.Words.{Bytes}
 use Rattle.numbers.specs.Result.{Result, ok, refused}
+use Rattle.value.specs.Rows.{row, fieldsOf}
 use Rattle.schema.specs.Defs.{Schema, Lookup, winning}
 use Rattle.layout.specs.State.{Remark, State, Out, done, stop, thin}
+use Rattle.layout.specs.Assemble.{fileOf}
 use Rattle.layout.specs.Build as Build
 use Rattle.layout.specs.Build.{zeroRemark, packed, build}
 use Rattle.layout.proofs.Grows.{eventsOf}
+use Rattle.layout.proofs.Tiling.{Tiled, root-tiled}
 use Rattle.area.specs.declared.Round.{Round}
 use Rattle.area.specs.declared.Progress.{Progress}
-use Rattle.area.specs.Area.{Rep}
+use Rattle.area.specs.Area.{envOf, Rep}
 use Rattle.area.specs.Posts.{gives, refuses, Meets}
 use Rattle.pso_write.specs.declared.Job.{Job}
 use Rattle.pso_write.specs.declared.Stage.{Stage}
-use Rattle.pso_write.specs.Files.{Measures}
+use Rattle.pso_write.specs.Files.{Counts, Holds}
 use Rattle.pso_write.specs.Rounds.{runOf, made, Standing, metIn, Laid}
 use Rattle.pso_write.specs.Merge.{refusalOf, endedAt, remarksIn, filled, Inv, turns, Goes, Judges}
 use Rattle.pso_write.proofs.Standings.{made-stop, made-done, fitted-long, fitted-fits}
@@ -61,7 +65,8 @@ module _ (F : Bytes) (size : ℕ) (st : Stage) (w : Bytes) where
       ∙ ended-badly (h .rooted .schema) (st .job .round) (length w) size room (winning (h .rooted .schema)) (runOf T (h .rooted .schema) (h .rooted .def) (st .job .round))
       (st .job .good) (st .job .value) (st .job .p) w (h .meets) g (omega (arith, few room zs (metIn h) len n t, n)))
 
-  module _ (len : ℕ) (good : st .job .good ≡ true) (measured : Measures F w (st .job .round) (st .job .p) len) where
+  module _ (len : ℕ) (good : st .job .good ≡ true)
+      (measured : (S : Schema) (s : State) (σ : Bytes) (pointer : ℕ) → Holds F (st .job .round) (st .job .p) w S s σ → Counts len (length (fileOf (winning S) pointer (s .core)))) where
     abbrev Ended : (T : Bytes) (room : ℕ) → Standing T F size room (st .job) w → Type 0
     Ended T room h = Well (h .rooted .schema) (st .job .round) (length w) (runOf T (h .rooted .schema) (h .rooted .def) (st .job .round)) (st .job .value) (st .job .p) w
 
@@ -78,20 +83,38 @@ module _ (F : Bytes) (size : ℕ) (st : Stage) (w : Bytes) where
         h .builds ∙ ap (made (winning (h .rooted .schema)) size room) (e .is)
         ∙ made-done (winning (h .rooted .schema)) size room (st .job .value) (e .state) (subst (λ (es : List Remark). length (thin es) ≤ room) (met-is T room h e) l)
 
-    -- 13
-    pub judge-long : ltb size len || ltb 16777216 len ≡ true → Judges F size st w (refusalOf 13)
-    judge-long f T room h zs lz n t =
-        let e : Ended T room h = well T room h in
-        refused-goes T room zs 13
-        (built T room h e (omega (arith, few room zs (metIn h) lz n t, n))
-        ∙ fitted-long (winning (h .rooted .schema)) size (st .job .value) (e .state) len (measured (h .rooted .schema) (e .state) [] (st .job .value) (h .rooted .whole) (e .rep)) f)
+    tiles : (T : Bytes) (room : ℕ) (h : Standing T F size room (st .job) w) (e : Ended T room h) → Tiled (e .state .core)
+    tiles T room h e =
+        root-tiled (envOf T (h .rooted .schema) (st .job .round)) (st .job .name) (h .rooted .def) (fieldsOf T (row T 0)) (st .job .value) (e .state) (h .rooted .wins) (e .is)
 
-    pub judge-fits : len ≤ size → len ≤ 16777216 → Judges F size st w (endedAt st len)
+    counted : (T : Bytes) (room : ℕ) (h : Standing T F size room (st .job) w) (e : Ended T room h)
+        → Counts len (length (fileOf (winning (h .rooted .schema)) (st .job .value) (e .state .core)))
+    counted T room h e = measured (h .rooted .schema) (e .state) [] (st .job .value) (record { schema = h .rooted .whole; rep = e .rep; tiled = tiles T room h e })
+
+    -- 13
+    refuses-long : (T : Bytes) (room : ℕ) (h : Standing T F size room (st .job) w) (e : Ended T room h) (zs : List Remark) (n : ℕ)
+        → n ≡ length (fileOf (winning (h .rooted .schema)) (st .job .value) (e .state .core)) → ltb size n || ltb 16777216 n ≡ true
+        → length (thin (metIn h)) ≤ room → Goes T F size room (refusalOf 13) zs w room
+    refuses-long T room h e zs n m f l =
+        refused-goes T room zs 13 (built T room h e l ∙ fitted-long (winning (h .rooted .schema)) size (st .job .value) (e .state) n m f)
+
+    pub judge-huge : 16777216 < len → Judges F size st w (refusalOf 13)
+    judge-huge f T room h zs lz n t =
+        let e : Ended T room h = well T room h in
+        let x : ℕ = length (fileOf (winning (h .rooted .schema)) (st .job .value) (e .state .core)) in
+        refuses-long T room h e zs x refl (rw (lt-ltb 16777216 x (counted T room h e .long f)) (or-true (ltb size x))) (omega (arith, few room zs (metIn h) lz n t, n))
+
+    pub judge-long : len ≤ 16777216 → size < len → Judges F size st w (refusalOf 13)
+    judge-long g f T room h zs lz n t =
+        let e : Ended T room h = well T room h in
+        refuses-long T room h e zs len (counted T room h e .exact g) (rw (lt-ltb size len f) refl) (omega (arith, few room zs (metIn h) lz n t, n))
+
+    pub judge-fits : len ≤ 16777216 → len ≤ size → Judges F size st w (endedAt st len)
     unfolding filled packed
-    judge-fits f g T room h zs lz n t =
+    judge-fits g f T room h zs lz n t =
         let e : Ended T room h = well T room h in
         let k : length (thin (metIn h)) ≡ st .count = few room zs (metIn h) lz n t in
-        let m : len ≡ _ = measured (h .rooted .schema) (e .state) [] (st .job .value) (h .rooted .whole) (e .rep) in
+        let m : len ≡ length (fileOf (winning (h .rooted .schema)) (st .job .value) (e .state .core)) = counted T room h e .exact g in
         let b : build T F (length w) size room ≡ ok (packed (record { state = e .state; pointer = st .job .value; defs = winning (h .rooted .schema) })) =
             built T room h e (omega (arith, k, n)) ∙ fitted-fits (winning (h .rooted .schema)) size (st .job .value) (e .state) len m f g in
         let r : remarksIn (build T F (length w) size room) ≡ thin (metIn h) = ap remarksIn b ∙ ap thin (sym (met-is T room h e)) in
@@ -109,9 +132,11 @@ module _ (F : Bytes) (size : ℕ) (st : Stage) (w : Bytes) where
                   stack = [];
                   whole = h .rooted .whole;
                   safe = h .safe;
+                  tiled = tiles T room h e;
                   rep = e .rep;
                   long = m;
                   fits = f;
+                  small = g;
                   builds = b;
                 };
               };

@@ -10,7 +10,7 @@ use lib.ListN.{length, getD, take, drop, drop-of-length-le}
 use borrow.Author.Count.{below-none}
 use borrow.Author.Tests.{ltb-true, ltb-false}
 use Rattle.numbers.specs.Words.{Bytes, zeros}
-use Rattle.schema.specs.Defs.{winning}
+use Rattle.schema.specs.Defs.{Schema, winning}
 use Rattle.layout.specs.State.{Remark, sameRemark, thinned, thin}
 use Rattle.layout.specs.Build.{zeroRemark, build}
 use Rattle.layout.proofs.Grows.{eventsOf}
@@ -22,11 +22,11 @@ use Rattle.pso_write.specs.declared.Job.{Job}
 use Rattle.pso_write.specs.declared.Stage.{Stage}
 use Rattle.pso_write.specs.declared.run.Ran.{Ran}
 use Rattle.pso_write.specs.declared.run.Ran.the-variants.{Done, Refused}
-use Rattle.pso_write.specs.Files.{Wipes}
+use Rattle.pso_write.specs.Files.{InUse}
 use Rattle.pso_write.specs.Rounds.{Roomy, Rooted, runOf, ranIs, numbersOf, Runs, made, answerIn, Standing, metIn}
 use Rattle.pso_write.specs.Merge.{withRow, soughtAt, jobOf, takenAt, rowOf, Fit, Left, Inv, bound, turns, Goes, Judges, Takes, Passes}
 use Rattle.pso_write.proofs.Thinning.{rejoin}
-use Rattle.pso_write.proofs.Standings.{standing, seen-is, rows-kept, next-within, next-after, rows-fewer, rows-fill, length-rowsIn}
+use Rattle.pso_write.proofs.Standings.{standing, in-use, seen-is, rows-kept, next-within, next-after, rows-fewer, rows-fill, length-rowsIn}
 use Rattle.pso_write.proofs.Merges.{sought}
 
 -- a round without rows has met no remark that it does not account for
@@ -72,14 +72,15 @@ module _ (T F : Bytes) (size room : ℕ) where
     again = record { entries = st .job .round .entries; cap = st .job .round .cap; skip = st .job .p .next }
 
     -- another round can run in the wiped area
-    pub round-again : Fit T F w size room st → (w' : Bytes) → length w' ≡ length w → Wipes w (st .job .round) (st .job .p) w'
+    pub round-again : Fit T F w size room st → (w' : Bytes) → length w' ≡ length w
+        → ((S : Schema) → InUse S (st .job .round) (length w) (st .job .p) w → w' ≡ zeros (length w))
         → Roomy again (length w') × (w' ≡ zeros (length w')) × Rooted F again (st .job .place) (st .job .name)
     round-again h w' lw wipes =
         let k = h .stands .rooted in
         let s = standing (h .stands) in
         (
           (h .stands .safe .small, omega (arith, h .stands .safe .room, lw)),
-          wipes (k .schema) (s .state) (s .stack) (s .rep) ∙ ap zeros (sym lw),
+          wipes (k .schema) (in-use (s .rep)) ∙ ap zeros (sym lw),
           record { schema = k .schema; def = k .def; whole = k .whole; entries = k .entries; wins = k .wins; found = k .found }
         )
 

@@ -6,9 +6,9 @@ use Prim.Native.Nat.{ℕ, zero, suc, _+_, _-_, _*_, _<_, _≤_}
 use native.Mathlib.Nat.{lt-irrefl, suc-le-suc-iff, add-zero}
 use native.Mathlib.Omega.{arith}
 use lib.Dec.{ltb}
-use lib.ListN.{length, getD, take, drop}
+use lib.ListN.{length, getD, take, drop, take-append-drop}
 use borrow.Author.Tests.{lt-ltb, le-ltb, ltb-true, ltb-false}
-use Rattle.numbers.specs.Words.{Bytes}
+use Rattle.numbers.specs.Words.{Bytes, over}
 use Rattle.numbers.specs.Result.{Result, ok, refused, andThen}
 use Rattle.schema.specs.Defs.{Schema, Lookup, winning}
 use Rattle.layout.specs.State.{Remark, State, Out, done, stop, sameRemark, thin}
@@ -23,6 +23,7 @@ use Rattle.area.specs.Area.{Rep}
 use Rattle.area.specs.Posts.{Safe, Ans, gives, refuses, Meets, Stopped}
 use Rattle.area.proofs.Noting.{rows-are}
 use Rattle.pso_write.specs.declared.Job.{Job}
+use Rattle.pso_write.specs.Files.{InUse, tableAt}
 use Rattle.pso_write.specs.Rounds.{runOf, made, Standing, metIn, Laid}
 use Rattle.pso_write.specs.Merge.{rowOf}
 use Rattle.pso_write.proofs.Thinning.{Distinct, distinct-thin}
@@ -79,6 +80,12 @@ stood S R n (done a s) true value p w m = record { state = s; stack = []; rep = 
 stood S R n (done a s) false value p w m = absurd m
 stood S R n (stop k es) true value p w m = absurd m
 stood S R n (stop k es) false value p w m = m .1
+
+-- what holds a state is in use, without a table of places
+pub in-use : {S : Schema} {R : Round} {s : State} {σ : Bytes} {p : Progress} {w : Bytes} → Rep S R (length w) s σ p w → InUse S R (length w) p w
+unfolding over
+in-use {S} {R} {s} {σ} {p} {w} r =
+    record { state = s; stack = σ; before = w; table = []; rep = r; few = omega arith; is = sym (take-append-drop tableAt w) }
 
 module _ {T F : Bytes} {size room : ℕ} {j : Job} {w : Bytes} (h : Standing T F size room j w) where
   pub standing : Stopped (h .rooted .schema) (j .round) (length w) (metIn h) (j .p) w

@@ -16,6 +16,7 @@ use Rattle.layout.specs.Write.{root}
 use Rattle.layout.specs.Assemble.{fileOf}
 use Rattle.layout.specs.Build.{Built, laidFrom, packed, fitted, build}
 use Rattle.layout.proofs.Grows.{eventsOf}
+use Rattle.layout.proofs.Tiling.{Tiled}
 use Rattle.area.specs.declared.Round.{Round}
 use Rattle.area.specs.declared.Progress.{Progress}
 use Rattle.area.specs.Area.{itemsAt, envOf, Rep}
@@ -84,7 +85,9 @@ pub record Laid (T F : Bytes) (size room : ℕ) (j : Job) (len : ℕ) (w : Bytes
   pub stack : Bytes
   pub whole : schemaOf F ≡ ok schema
   pub safe : Safe (j .round) (length w) (j .p)
+  pub tiled : Tiled (state .core)
   pub rep : Rep schema (j .round) (length w) state stack (j .p) w
   pub long : len ≡ length (fileOf (winning schema) (j .value) (state .core))
   pub fits : len ≤ size
+  pub small : len ≤ 16777216
   pub builds : build T F (length w) size room ≡ ok (packed (record { state = state; pointer = j .value; defs = winning schema }))

@@ -176,10 +176,10 @@ pub fn judged(schema: &[u8], work: &[u8], size: usize, st: Stage) -> Stage
         return refusal(j.value);
     }
     let n = file_length(schema, work, j.round, j.p);
-    if size < n {
+    if 16777216 < n {
         return refusal(13);
     }
-    if 16777216 < n {
+    if size < n {
         return refusal(13);
     }
     let mut q = st;

@@ -3,7 +3,7 @@ use Rattle.pso_write.proofs.file.file_length.Tie as tie
 use Rattle.pso_write.proofs.file.file_length.Reads as reads
 use Rattle.pso_write.proofs.file.file_length.Lts as lts
 
--- src/file.rt:11:1
+-- src/file.rt:15:1
 returns : tie.Need-returns
 returns c = ?
 

@@ -3,7 +3,7 @@ use Rattle.pso_write.proofs.file.put_file.Tie as tie
 use Rattle.pso_write.proofs.file.put_file.Reads as reads
 use Rattle.pso_write.proofs.file.put_file.Lts as lts
 
--- src/file.rt:19:1
+-- src/file.rt:24:1
 returns : tie.Need-returns
 returns c = ?
 

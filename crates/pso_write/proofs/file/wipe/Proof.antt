@@ -3,7 +3,7 @@ use Rattle.pso_write.proofs.file.wipe.Tie as tie
 use Rattle.pso_write.proofs.file.wipe.Reads as reads
 use Rattle.pso_write.proofs.file.wipe.Lts as lts
 
--- src/file.rt:26:1
+-- src/file.rt:33:1
 returns : tie.Need-returns
 returns c = ?
 

@@ -1,9 +1,7 @@
-use mathlib.Core.Bool.{or-true}
-use Rattle.pso_write.proofs.Judging.{judge-bad, judge-long, judge-fits}
+use Rattle.pso_write.proofs.Judging.{judge-bad, judge-huge, judge-long, judge-fits}
 use Rattle.pso_write.specs.Merge.{Judges}
-use borrow.Author.Tests.{lt-ltb, not-true, not-false}
-use lib.Dec.{ltb}
-use mathlib.Core.Path.{sym, subst, refl}
+use borrow.Author.Tests.{not-true, not-false}
+use mathlib.Core.Path.{sym, subst}
 use borrow.Author.Needs.{needs}
 use Rattle.pso_write.proofs.rounds.judged.Statement.{statement}
 use Rattle.pso_write.proofs.rounds.judged.Tie as tie
@@ -36,7 +34,7 @@ returns-2 c =
     let a = c .before .before .before .before .before .before .before .before .args in
     let n = c .before .before .file-length in
     subst (Judges (a .schema .now) (a .size) (a .st) (a .work .now)) (sym (c .refusal2 .ensures))
-    (judge-long (a .schema .now) (a .size) (a .st) (a .work .now) (n .result) (not-false (a .st .job .good) (c .before .before .before .if1 .left)) (n .ensures) (rw (lt-ltb (a .size) (n .result) (c .before .if2 .taken)) refl))
+    (judge-huge (a .schema .now) (a .size) (a .st) (a .work .now) (n .result) (not-false (a .st .job .good) (c .before .before .before .if1 .left)) (n .ensures) (c .before .if2 .taken))
 
 -- src/rounds.rt:183:9
 refusal-requires-3 : tie.Need-refusal-requires-3
@@ -48,7 +46,7 @@ returns-3 c =
     let a = c .before .before .before .before .before .before .before .before .before .args in
     let n = c .before .before .before .file-length in
     subst (Judges (a .schema .now) (a .size) (a .st) (a .work .now)) (sym (c .refusal3 .ensures))
-    (judge-long (a .schema .now) (a .size) (a .st) (a .work .now) (n .result) (not-false (a .st .job .good) (c .before .before .before .before .if1 .left)) (n .ensures) (rw (lt-ltb 16777216 (n .result) (c .before .if3 .taken)) (or-true (ltb (a .size) (n .result)))))
+    (judge-long (a .schema .now) (a .size) (a .st) (a .work .now) (n .result) (not-false (a .st .job .good) (c .before .before .before .before .if1 .left)) (n .ensures) (c .before .before .if2 .left) (c .before .if3 .taken))
 
 -- src/rounds.rt:170:1
 returns-4 : tie.Need-returns-4
