@@ -1,8 +1,8 @@
 -- The beginning and the end: the first round, the answer, the file, and what the list holds. Assumes nothing.
 use mathlib.Core.Path.{_≡_, refl, sym, ap, subst, _∙_}
-use mathlib.Core.Bool.{Bool, true, false, false≢true}
-use mathlib.Core.List.{List, [], _∷_, _++_, append-nil}
-use Prim.Native.Nat.{ℕ, _+_, _-_, _<_, _≤_, zero-le}
+use mathlib.Core.Bool.{Bool, true, false}
+use mathlib.Core.List.{List, [], _++_, append-nil}
+use Prim.Native.Nat.{ℕ, _+_, _-_, _≤_, zero-le}
 use native.Mathlib.Nat.{lt-irrefl, sub-zero}
 use native.Mathlib.Omega.{arith}
 use lib.ListN.{length, take, drop, replicate, drop-of-length-le}
@@ -21,7 +21,6 @@ use Rattle.pso_write.specs.declared.Built.{Built}
 use Rattle.pso_write.specs.declared.Built.the-variants.{File, Refused}
 use Rattle.pso_write.specs.declared.Job.{Job}
 use Rattle.pso_write.specs.declared.Stage.{Stage}
-use Rattle.pso_write.specs.declared.rounds.Opening.{Opening}
 use Rattle.pso_write.specs.declared.rounds.Opening.the-variants as O
 use Rattle.pso_write.specs.Answers.{answerOf, leaves}
 use Rattle.pso_write.specs.Files.{Fitting, SomeFitting, InUse}

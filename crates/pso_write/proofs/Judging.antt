@@ -1,7 +1,7 @@
 -- All rows are merged: the layout's own answer, and the file's length. Assumes nothing.
 use mathlib.Core.Path.{_≡_, refl, sym, ap, subst, _∙_}
 use mathlib.Core.Bool.{Bool, true, false, cond, _||_, or-true, false≢true, true≢false}
-use mathlib.Core.List.{List, [], _∷_, _++_, append-nil}
+use mathlib.Core.List.{List, [], _++_, append-nil}
 use Prim.Native.Nat.{ℕ, _+_, _-_, _<_, _≤_}
 use native.Mathlib.Omega.{arith}
 use lib.Dec.{ltb}
@@ -9,7 +9,7 @@ use lib.ListN.{length, take, replicate}
 use lib.Seq.{length-take-le}
 use borrow.Author.Tests.{lt-ltb}
 use Rattle.numbers.specs.Words.{Bytes}
-use Rattle.numbers.specs.Result.{Result, ok, refused}
+use Rattle.numbers.specs.Result.{ok, refused}
 use Rattle.value.specs.Rows.{row, fieldsOf}
 use Rattle.schema.specs.Defs.{Schema, Lookup, winning}
 use Rattle.layout.specs.State.{Remark, State, Out, done, stop, thin}
@@ -22,11 +22,10 @@ use Rattle.area.specs.declared.Round.{Round}
 use Rattle.area.specs.declared.Progress.{Progress}
 use Rattle.area.specs.Area.{envOf, Rep}
 use Rattle.area.specs.Posts.{gives, refuses, Meets}
-use Rattle.pso_write.specs.declared.Job.{Job}
 use Rattle.pso_write.specs.declared.Stage.{Stage}
 use Rattle.pso_write.specs.Files.{Counts, Holds}
-use Rattle.pso_write.specs.Rounds.{runOf, made, Standing, metIn, Laid}
-use Rattle.pso_write.specs.Merge.{refusalOf, endedAt, remarksIn, filled, Inv, turns, Goes, Judges}
+use Rattle.pso_write.specs.Rounds.{runOf, made, Standing, metIn}
+use Rattle.pso_write.specs.Merge.{refusalOf, endedAt, remarksIn, filled, Goes, Judges}
 use Rattle.pso_write.proofs.Standings.{made-stop, made-done, fitted-long, fitted-fits}
 use Rattle.pso_write.proofs.Merges.{turns-last, closes}
 

@@ -1,13 +1,13 @@
 -- The merge, by value: each turn keeps `Inv` and leaves fewer turns. Assumes nothing.
 use mathlib.Core.Path.{_≡_, refl, sym, ap, subst, _∙_}
-use mathlib.Core.Bool.{Bool, true, false, cond, false≢true, true≢false}
-use mathlib.Core.List.{List, [], _∷_, _++_, append-nil, append-assoc}
+use mathlib.Core.Bool.{Bool, true, false, false≢true, true≢false}
+use mathlib.Core.List.{List, [], _∷_, _++_, append-assoc}
 use Prim.Native.Nat.{ℕ, zero, suc, _+_, _*_, _-_, _<_, _≤_, zero-le}
 use native.Mathlib.Numerals.{add-one}
-use native.Mathlib.Nat.{lt-irrefl, sub-zero, suc-mul, mul-le-mul-right}
+use native.Mathlib.Nat.{lt-irrefl, suc-mul, mul-le-mul-right}
 use native.Mathlib.Omega.{arith}
 use lib.Dec.{eqb, ltb}
-use lib.ListN.{length, getD, take, drop, set, replicate, length-append, length-set, drop-of-length-le, replicate-append-replicate}
+use lib.ListN.{length, getD, take, drop, set, replicate, length-append, length-set, replicate-append-replicate}
 use lib.Seq.{length-take-le, take-suc-set, getD-take, set-getD, getD-set-same, getD-set-other}
 use borrow.Author.Count.{below-more}
 use borrow.Author.Tests.{eq-eqb, ne-eqb, eqb-true, eqb-false, lt-ltb, le-ltb, ltb-true, ltb-false}
@@ -17,8 +17,8 @@ use Rattle.layout.specs.State.{Remark, sameRemark, remarked, noted, thinned, th
 use Rattle.layout.specs.Build.{zeroRemark, build}
 use Rattle.area.specs.Rows.{rowsIn}
 use Rattle.pso_write.specs.declared.Stage.{Stage}
-use Rattle.pso_write.specs.Rounds.{Standing, metIn}
-use Rattle.pso_write.specs.Merge.{refusalOf, endedAt, movedTo, withRow, withCount, soughtAt, remarksIn, filled, rowOf, Fit, Left, Own, Merging, Closing, Closed, Inv, bound, turns, Goes, Passes, Steps}
+use Rattle.pso_write.specs.Rounds.{metIn}
+use Rattle.pso_write.specs.Merge.{refusalOf, movedTo, withCount, soughtAt, remarksIn, filled, rowOf, Fit, Left, Own, Merging, Closed, Inv, bound, turns, Goes, Passes, Steps}
 use Rattle.pso_write.proofs.Thinning.{noted-in, noted-out, longer, found, absent}
 use Rattle.pso_write.proofs.Standings.{refuses-full, rows-distinct}
 

@@ -1,13 +1,13 @@
 -- What is refused before the layout, and what it runs with. Assumes nothing.
 use mathlib.Core.Path.{_≡_, refl, sym, ap, subst, _∙_}
-use mathlib.Core.Bool.{Bool, true, false, cond}
-use mathlib.Core.Option.{Option, none, some}
-use Prim.Native.Nat.{ℕ, _+_, _*_, _-_, _/_, _<_, _≤_, min}
+use mathlib.Core.Bool.{Bool, true, false}
+use mathlib.Core.Option.{none, some}
+use Prim.Native.Nat.{ℕ, _*_, _-_, _/_, _<_, _≤_}
 use native.Mathlib.Omega.{arith}
 use lib.Dec.{ltb}
-use borrow.Author.Tests.{lt-ltb, le-ltb, ltb-true, ltb-false}
+use borrow.Author.Tests.{lt-ltb, le-ltb, ltb-false}
 use Rattle.numbers.specs.Words.{Bytes}
-use Rattle.numbers.specs.Result.{Result, ok, refused, andThen, mapResult, needed, mapOption}
+use Rattle.numbers.specs.Result.{Result, ok, refused, andThen, mapResult, needed}
 use Rattle.value.specs.Rows.{row}
 use Rattle.value.specs.Answer.{checked, numberOf}
 use Rattle.value.specs.declared.check.Sheet.{Sheet}
@@ -19,12 +19,10 @@ use Rattle.schema.specs.Answers.{checkedIs, foundIs, structFound}
 use Rattle.schema.specs.Defs.{Schema, StructDef, winning, indexEntries}
 use Rattle.schema.specs.Psch.{schemaOf, structHere}
 use Rattle.schema.specs.Index.{lastPlace}
-use Rattle.layout.specs.Build.{Built, refusedBy, sheetOk, workNeed, capOf, layoutWith, layoutOf, layout, build}
-use Rattle.area.specs.declared.Round.{Round}
-use Rattle.area.specs.Area.{itemsAt}
+use Rattle.layout.specs.Build.{sheetOk, workNeed, capOf, layoutWith, layoutOf, layout, build}
 use Rattle.pso_write.specs.declared.rounds.Opening.{Opening}
 use Rattle.pso_write.specs.declared.rounds.Opening.the-variants as O
-use Rattle.pso_write.specs.Rounds.{Roomy, Rooted, runOf, made}
+use Rattle.pso_write.specs.Rounds.{Roomy}
 use Rattle.pso_write.specs.Merge.{Opens, roomedAt}
 
 -- the check's answer

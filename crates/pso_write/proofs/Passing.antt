@@ -1,7 +1,7 @@
 -- A row is done with; a round's rows are taken. Assumes nothing.
 use mathlib.Core.Path.{_≡_, refl, sym, ap, subst, _∙_}
 use mathlib.Core.Bool.{Bool, true, false}
-use mathlib.Core.List.{List, [], _∷_, _++_}
+use mathlib.Core.List.{List, [], _++_}
 use Prim.Native.Nat.{ℕ, _+_, _*_, _-_, _<_, _≤_}
 use native.Mathlib.Nat.{lt-irrefl, sub-zero, mul-le-mul-right}
 use native.Mathlib.Omega.{arith}
@@ -17,16 +17,16 @@ use Rattle.layout.proofs.Grows.{eventsOf}
 use Rattle.area.specs.declared.Round.{Round}
 use Rattle.area.specs.declared.Progress.{Progress}
 use Rattle.area.specs.Rows.{rowsIn}
-use Rattle.area.specs.Posts.{Safe, gives, refuses, Meets}
+use Rattle.area.specs.Posts.{Safe, Meets}
 use Rattle.pso_write.specs.declared.Job.{Job}
 use Rattle.pso_write.specs.declared.Stage.{Stage}
 use Rattle.pso_write.specs.declared.run.Ran.{Ran}
 use Rattle.pso_write.specs.declared.run.Ran.the-variants.{Done, Refused}
 use Rattle.pso_write.specs.Files.{InUse}
-use Rattle.pso_write.specs.Rounds.{Roomy, Rooted, runOf, ranIs, numbersOf, Runs, made, answerIn, Standing, metIn}
-use Rattle.pso_write.specs.Merge.{withRow, soughtAt, jobOf, takenAt, rowOf, Fit, Left, Inv, bound, turns, Goes, Judges, Takes, Passes}
+use Rattle.pso_write.specs.Rounds.{Roomy, Rooted, runOf, Runs, made, answerIn, Standing, metIn}
+use Rattle.pso_write.specs.Merge.{withRow, soughtAt, jobOf, takenAt, rowOf, Fit, Left, bound, Goes, Judges, Takes, Passes}
 use Rattle.pso_write.proofs.Thinning.{rejoin}
-use Rattle.pso_write.proofs.Standings.{standing, in-use, seen-is, rows-kept, next-within, next-after, rows-fewer, rows-fill, length-rowsIn}
+use Rattle.pso_write.proofs.Standings.{standing, in-use, seen-is, rows-kept, next-within, next-after, rows-fewer, rows-fill}
 use Rattle.pso_write.proofs.Merges.{sought}
 
 -- a round without rows has met no remark that it does not account for

@@ -1,15 +1,15 @@
 -- What a round that has run tells of the remarks and of the answer. Assumes nothing.
 use mathlib.Core.Path.{_≡_, refl, sym, ap, subst, _∙_}
 use mathlib.Core.Bool.{Bool, true, false, cond, _||_}
-use mathlib.Core.List.{List, [], _∷_, _++_}
+use mathlib.Core.List.{List, []}
 use Prim.Native.Nat.{ℕ, zero, suc, _+_, _-_, _*_, _<_, _≤_}
-use native.Mathlib.Nat.{lt-irrefl, suc-le-suc-iff, add-zero}
+use native.Mathlib.Nat.{lt-irrefl, suc-le-suc-iff}
 use native.Mathlib.Omega.{arith}
 use lib.Dec.{ltb}
 use lib.ListN.{length, getD, take, drop, take-append-drop}
-use borrow.Author.Tests.{lt-ltb, le-ltb, ltb-true, ltb-false}
+use borrow.Author.Tests.{lt-ltb, le-ltb}
 use Rattle.numbers.specs.Words.{Bytes, over}
-use Rattle.numbers.specs.Result.{Result, ok, refused, andThen}
+use Rattle.numbers.specs.Result.{ok, refused, andThen}
 use Rattle.schema.specs.Defs.{Schema, Lookup, winning}
 use Rattle.layout.specs.State.{Remark, State, Out, done, stop, sameRemark, thin}
 use Rattle.layout.specs.Assemble.{fileOf}
@@ -20,11 +20,11 @@ use Rattle.area.specs.declared.Progress.{Progress}
 use Rattle.area.specs.Kept.{kept}
 use Rattle.area.specs.Rows.{rowIn, rowsIn}
 use Rattle.area.specs.Area.{Rep}
-use Rattle.area.specs.Posts.{Safe, Ans, gives, refuses, Meets, Stopped}
+use Rattle.area.specs.Posts.{gives, refuses, Meets, Stopped}
 use Rattle.area.proofs.Noting.{rows-are}
 use Rattle.pso_write.specs.declared.Job.{Job}
 use Rattle.pso_write.specs.Files.{InUse, tableAt}
-use Rattle.pso_write.specs.Rounds.{runOf, made, Standing, metIn, Laid}
+use Rattle.pso_write.specs.Rounds.{runOf, made, Standing, metIn}
 use Rattle.pso_write.specs.Merge.{rowOf}
 use Rattle.pso_write.proofs.Thinning.{Distinct, distinct-thin}
 use Rattle.pso_write.proofs.Accounts.{Accounts, accounts, goes-on}
