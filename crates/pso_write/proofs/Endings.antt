@@ -23,7 +23,7 @@ use Rattle.pso_write.specs.declared.Job.{Job}
 use Rattle.pso_write.specs.declared.Stage.{Stage}
 use Rattle.pso_write.specs.declared.rounds.Opening.the-variants as O
 use Rattle.pso_write.specs.Answers.{answerOf, leaves}
-use Rattle.pso_write.specs.Files.{Fitting, SomeFitting, InUse}
+use Rattle.assemble.specs.Packed.{Fitting, SomeFitting, InUse}
 use Rattle.pso_write.specs.Rounds.{Roomy, Rooted, runOf, Laid}
 use Rattle.pso_write.specs.Merge.{refusalOf, remarksIn, filled, Closing, Closed, Inv, Takes, Opens, Begins, Ends}
 use Rattle.pso_write.proofs.Merges.{closes}
@@ -68,11 +68,10 @@ module _ (T F out w : Bytes) (room len count : ℕ) (j : Job) (h : Closing T F (
   pub end-refused : j .good ≡ false → (w' : Bytes) → w' ≡ zeros (length w) → Ends T F room (length w) out (Refused (j .value)) out w'
   unfolding buildPso afterwards
   end-refused g w' e =
-      let b : build T F (length w) (length out) room ≡ refused (j .value) = h .bad g in
-      (
+      let b : build T F (length w) (length out) room ≡ refused (j .value) = h .bad g in (
         ap (λ x. afterwards (length w) out room x .answer) (sym b),
         ap (λ x. afterwards (length w) out room x .output) (sym b),
-        e
+        e,
       )
 
   -- the file fits
@@ -100,12 +99,11 @@ module _ (T F out w : Bytes) (room len count : ℕ) (j : Job) (h : Closing T F (
       let l : Laid T F (length out) room j len w = h .well g in
       let b = l .builds in
       let c : count ≡ length (thin (l .state .events)) = h .counts ∙ ap (λ x. length (remarksIn x)) b in
-      let p = writes (l .schema) (l .state) (l .stack) (fitting g l) in
-      (
+      let p = writes (l .schema) (l .state) (l .stack) (fitting g l) in (
         ap (λ (n : ℕ). success n count) (l .long) ∙ ap (λ (k : ℕ). success (length (fileOf (winning (l .schema)) (j .value) (l .state .core))) k) c
-        ∙ ap (λ x. afterwards (length w) out room x .answer) (sym b),
+            ∙ ap (λ x. afterwards (length w) out room x .answer) (sym b),
         p .0 ∙ over-front out (fileOf (winning (l .schema)) (j .value) (l .state .core)) ∙ ap (λ x. afterwards (length w) out room x .output) (sym b),
-        wipes (l .schema) (subst (λ (n : ℕ). InUse (l .schema) (j .round) n (j .p) w₁) (sym l₁) (p .1)) ∙ ap zeros l₁
+        wipes (l .schema) (subst (λ (n : ℕ). InUse (l .schema) (j .round) n (j .p) w₁) (sym l₁) (p .1)) ∙ ap zeros l₁,
       )
 
 -- the list at the end

@@ -23,7 +23,8 @@ use Rattle.area.specs.declared.Progress.{Progress}
 use Rattle.area.specs.Area.{envOf, Rep}
 use Rattle.area.specs.Posts.{gives, refuses, Meets}
 use Rattle.pso_write.specs.declared.Stage.{Stage}
-use Rattle.pso_write.specs.Files.{Counts, Holds}
+use Rattle.assemble.specs.Used.{Counts}
+use Rattle.assemble.specs.Packed.{Holds}
 use Rattle.pso_write.specs.Rounds.{runOf, made, Standing, metIn}
 use Rattle.pso_write.specs.Merge.{refusalOf, endedAt, remarksIn, filled, Goes, Judges}
 use Rattle.pso_write.proofs.Standings.{made-stop, made-done, fitted-long, fitted-fits}
@@ -115,10 +116,9 @@ module _ (F : Bytes) (size : ℕ) (st : Stage) (w : Bytes) where
         let k : length (thin (metIn h)) ≡ st .count = few room zs (metIn h) lz n t in
         let m : len ≡ length (fileOf (winning (h .rooted .schema)) (st .job .value) (e .state .core)) = counted T room h e .exact g in
         let b : build T F (length w) size room ≡ ok (packed (record { state = e .state; pointer = st .job .value; defs = winning (h .rooted .schema) })) =
-            built T room h e (omega (arith, k, n)) ∙ fitted-fits (winning (h .rooted .schema)) size (st .job .value) (e .state) len m f g in
+        built T room h e (omega (arith, k, n)) ∙ fitted-fits (winning (h .rooted .schema)) size (st .job .value) (e .state) len m f g in
         let r : remarksIn (build T F (length w) size room) ≡ thin (metIn h) = ap remarksIn b ∙ ap thin (sym (met-is T room h e)) in
-        let z : st .count - length (thin (metIn h)) ≡ 0 = omega (arith, k) in
-        (
+        let z : st .count - length (thin (metIn h)) ≡ 0 = omega (arith, k) in (
           (
             λ q. absurd (true≢false q),
             λ _. record {
@@ -142,7 +142,7 @@ module _ (F : Bytes) (size : ℕ) (st : Stage) (w : Bytes) where
               upto = n;
               behind = omega arith;
               front = t ∙ sym (append-nil (thin (metIn h))) ∙ ap (λ (i : ℕ). thin (metIn h) ++ replicate i zeroRemark) (sym z) ∙ ap (filled (st .count)) (sym r);
-            }
+            },
           ),
-          omega (arith, turns-last room (endedAt st len) refl)
+          omega (arith, turns-last room (endedAt st len) refl),
         )

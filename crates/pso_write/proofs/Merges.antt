@@ -61,16 +61,15 @@ module _ (T F : Bytes) (size room : ℕ) where
   -- a refusal
   pub closes : (k : ℕ) (zs : List Remark) (w : Bytes) → build T F (length w) size room ≡ refused k → Inv T F size room (refusalOf k) zs w
   unfolding filled
-  closes k zs w e =
-      (
-        λ q. absurd (true≢false q),
-        λ _. record {
-          closing = record { counts = ap (λ x. length (remarksIn x)) (sym e); bad = λ _. e; well = λ q. absurd (false≢true q) };
-          upto = zero-le;
-          behind = zero-le;
-          front = ap (λ x. filled 0 (remarksIn x)) (sym e);
-        }
-      )
+  closes k zs w e = (
+    λ q. absurd (true≢false q),
+    λ _. record {
+      closing = record { counts = ap (λ x. length (remarksIn x)) (sym e); bad = λ _. e; well = λ q. absurd (false≢true q) };
+      upto = zero-le;
+      behind = zero-le;
+      front = ap (λ x. filled 0 (remarksIn x)) (sym e);
+    },
+  )
 
   -- a row that is looked for, from record k on
   pub record Seeks (w : Bytes) (st : Stage) (zs : List Remark) (k : ℕ) : Type 0 where
@@ -109,21 +108,20 @@ module _ (T F : Bytes) (size room : ℕ) where
 
     merging : (a : ℕ) → a < room → (st .base ≤ a → a ≡ st .count) → ((i : ℕ) → i < a → sameRemark (getD zs i zeroRemark) (rowOf w (st .row)) ≡ false) → k ≤ a
         → Goes T F size room (movedTo st a) zs w (bound room (st .job .p .rows - st .row) (st .job .p .seen - st .job .p .next) k)
-    merging a l s f g =
-        (
-          (
-            λ _. record {
-              fit = record { stands = h .fit .stands; going = h .fit .going; some = h .fit .some; count = h .fit .count; base = h .fit .base };
-              place = l;
-              settled = s;
-              left = h .left;
-              own = h .own;
-              apart = f;
-            },
-            λ q. absurd (false≢true (sym (h .fit .going) ∙ q))
-          ),
-          omega (arith, turns-seeking room (movedTo st a) (h .fit .going), g)
-        )
+    merging a l s f g = (
+      (
+        λ _. record {
+          fit = record { stands = h .fit .stands; going = h .fit .going; some = h .fit .some; count = h .fit .count; base = h .fit .base };
+          place = l;
+          settled = s;
+          left = h .left;
+          own = h .own;
+          apart = f;
+        },
+        λ q. absurd (false≢true (sym (h .fit .going) ∙ q)),
+      ),
+      omega (arith, turns-seeking room (movedTo st a) (h .fit .going), g),
+    )
 
     overfull : st .base ≤ k → st .count ≡ room → build T F (length w) size room ≡ refused 14
     overfull b n =
@@ -168,8 +166,7 @@ module _ (T F : Bytes) (size room : ℕ) where
     -- a record becomes zero
     pub step-last : st .last ≡ true → Steps T F size room st old w (record { st = movedTo st (st .at + 1); new = zeroRemark }) w
     step-last l zs len eo inv =
-        let k : Closed T F size room st zs w = inv .1 l in
-        (
+        let k : Closed T F size room st zs w = inv .1 l in (
           (
             λ q. absurd (true≢false (sym l ∙ q)),
             λ _. record {
@@ -179,9 +176,9 @@ module _ (T F : Bytes) (size room : ℕ) where
               front = ap (λ (j : ℕ). take j (set zs (st .at) zeroRemark)) (add-one (st .at)) ∙ take-suc-set zs (st .at) zeroRemark (omega (arith, place, len))
                   ∙ ap (λ (x : List Remark). x ++ (zeroRemark ∷ [])) (k .front)
                   ∙ filled-one (st .at) (remarksIn (build T F (length w) size room)) (omega (arith, k .behind, k .closing .counts));
-            }
+            },
           ),
-          omega (arith, turns-last room (movedTo st (st .at + 1)) l, turns-last room st l, place)
+          omega (arith, turns-last room (movedTo st (st .at + 1)) l, turns-last room st l, place),
         )
 
     module _ (last : st .last ≡ false) (fit : Fit T F w size room st) where
@@ -197,12 +194,11 @@ module _ (T F : Bytes) (size room : ℕ) where
           let lt : st .at < length acc = omega (arith, c, length-take-le (st .count) zs (omega (arith, fit .count, len))) in
           let mem : remarked x acc ≡ true = found acc x (st .at) lt (ap (λ (y : Remark). sameRemark y x) (getD-take (st .count) zs (st .at) zeroRemark c ∙ sym eo) ∙ same) in
           let g = passes (m .fit) zs len
-              (ap (λ (l : List Remark). thinned l (rowsIn w (32768 + 16 * (st .row + 1)) (st .job .p .rows - (st .row + 1)) ++ drop (st .job .p .next) es)) (sym (noted-in x acc mem))
-              ∙ some-left w st zs es (fit .some) (m .left))
-              (λ k j a b c d. m .own k j a b (omega (arith, c)) d) in
-          (
+          (ap (λ (l : List Remark). thinned l (rowsIn w (32768 + 16 * (st .row + 1)) (st .job .p .rows - (st .row + 1)) ++ drop (st .job .p .next) es)) (sym (noted-in x acc mem))
+          ∙ some-left w st zs es (fit .some) (m .left))
+          (λ k j a b c d. m .own k j a b (omega (arith, c)) d) in (
             subst (λ (l : List Remark). Inv T F size room r l w') (sym (ap (set zs (st .at)) eo ∙ set-getD zs (st .at) zeroRemark)) (g .0),
-            turns-fall room st (turns room r) last (fit .some) place (g .1)
+            turns-fall room st (turns room r) last (fit .some) place (g .1),
           )
 
       -- it does not: the next one
@@ -211,19 +207,18 @@ module _ (T F : Bytes) (size room : ℕ) where
       step-next h differ r q zs len eo inv =
           let m : Merging T F size room st zs w = inv .0 last in
           let g = sought w st zs (st .at + 1)
-              (record {
-                len = len;
-                fit = m .fit;
-                upto = omega (arith, h);
-                left = m .left;
-                own = m .own;
-                apart = below-more (λ (k : ℕ). sameRemark (getD zs k zeroRemark) (rowOf w (st .row)) ≡ false) (st .at) (m .apart)
-                    (ap (λ (y : Remark). sameRemark y (rowOf w (st .row))) (sym eo) ∙ differ);
-              }) in
-          let t : turns room (soughtAt room st (st .at + 1)) < turns room st = omega (arith, turns-seeking room st last, g .1, place) in
-          (
+          (record {
+            len = len;
+            fit = m .fit;
+            upto = omega (arith, h);
+            left = m .left;
+            own = m .own;
+            apart = below-more (λ (k : ℕ). sameRemark (getD zs k zeroRemark) (rowOf w (st .row)) ≡ false) (st .at) (m .apart)
+                (ap (λ (y : Remark). sameRemark y (rowOf w (st .row))) (sym eo) ∙ differ);
+          }) in
+          let t : turns room (soughtAt room st (st .at + 1)) < turns room st = omega (arith, turns-seeking room st last, g .1, place) in (
             subst (λ (l : List Remark). Inv T F size room r l w) (sym (ap (set zs (st .at)) eo ∙ set-getD zs (st .at) zeroRemark)) (subst (λ (x : Stage). Inv T F size room x zs w) (sym q) (g .0)),
-            subst (λ (x : Stage). turns room x < turns room st) (sym q) t
+            subst (λ (x : Stage). turns room x < turns room st) (sym q) t,
           )
 
       pub fit-put : (st .base ≤ st .at → st .at ≡ st .count) → st .base ≤ st .at → Fit T F w size room (withCount st (st .count + 1))
@@ -254,10 +249,10 @@ module _ (T F : Bytes) (size room : ℕ) where
           let out : remarked x acc ≡ false = not-there zs x (st .count) (omega (arith, fit .count, len)) (λ k l. ap (sameRemark (getD zs k zeroRemark)) ex ∙ m .apart k (omega (arith, l, a))) in
           let zs′ : List Remark = set zs (st .at) x in
           let t : take (st .count + 1) zs′ ≡ noted (rowOf w (st .row)) acc =
-              ap (λ (j : ℕ). take j zs′) (add-one (st .count)) ∙ ap (λ (j : ℕ). take (suc (st .count)) (set zs j x)) a ∙ take-suc-set zs (st .count) x (omega (arith, a, place, len))
-              ∙ sym (noted-out x acc out) ∙ ap (λ (y : Remark). noted y acc) ex in
+          ap (λ (j : ℕ). take j zs′) (add-one (st .count)) ∙ ap (λ (j : ℕ). take (suc (st .count)) (set zs j x)) a ∙ take-suc-set zs (st .count) x (omega (arith, a, place, len))
+          ∙ sym (noted-out x acc out) ∙ ap (λ (y : Remark). noted y acc) ex in
           let g = passes (record { stands = m .fit .stands; going = last; some = fit .some; count = omega (arith, a, place); base = omega (arith, fit .base) }) zs′ (length-set zs (st .at) x ∙ len)
-              (ap (λ (l : List Remark). thinned l (rowsIn w (32768 + 16 * (st .row + 1)) (st .job .p .rows - (st .row + 1)) ++ drop (st .job .p .next) es)) t
-              ∙ some-left w st zs es (fit .some) (m .left))
-              (own-put zs len a x ex (m .own)) in
+          (ap (λ (l : List Remark). thinned l (rowsIn w (32768 + 16 * (st .row + 1)) (st .job .p .rows - (st .row + 1)) ++ drop (st .job .p .next) es)) t
+          ∙ some-left w st zs es (fit .some) (m .left))
+          (own-put zs len a x ex (m .own)) in
           (g .0, turns-fall room st (turns room r) last (fit .some) place (g .1))

@@ -85,14 +85,13 @@ module _ (T F : Bytes) (S : Schema) (n name : ℕ) (sheet : sheetOk T ≡ ok tt)
     unfolding build layout layoutOf layoutWith andThen needed
     there true e = rw e (λ size room. let f : winning S .struct (row T 0 .a) ≡ some d = ap (winning S .struct) (sym named) ∙ wins in rw (sheet, whole, f, e) refl)
     there false e =
-        rw e
-        (
+        rw e (
           record { schema = S; def = d; whole = whole; entries = refl; wins = wins; found = found },
           (
             roomy n (indexEntries S) (ltb-false n (workNeed (indexEntries S)) e),
             refl,
-            λ size room. let f : winning S .struct (row T 0 .a) ≡ some d = ap (winning S .struct) (sym named) ∙ wins in rw (sheet, whole, f, e) refl
-          )
+            λ size room. let f : winning S .struct (row T 0 .a) ≡ some d = ap (winning S .struct) (sym named) ∙ wins in rw (sheet, whole, f, e) refl,
+          ),
         )
 
     pub root-there : (i : ℕ) → indexEntries S ≡ i → (r : Opening) → r ≡ roomedAt n i place name → Opens T F n r

@@ -22,7 +22,7 @@ use Rattle.pso_write.specs.declared.Job.{Job}
 use Rattle.pso_write.specs.declared.Stage.{Stage}
 use Rattle.pso_write.specs.declared.run.Ran.{Ran}
 use Rattle.pso_write.specs.declared.run.Ran.the-variants.{Done, Refused}
-use Rattle.pso_write.specs.Files.{InUse}
+use Rattle.assemble.specs.Packed.{InUse}
 use Rattle.pso_write.specs.Rounds.{Roomy, Rooted, runOf, Runs, made, answerIn, Standing, metIn}
 use Rattle.pso_write.specs.Merge.{withRow, soughtAt, jobOf, takenAt, rowOf, Fit, Left, bound, Goes, Judges, Takes, Passes}
 use Rattle.pso_write.proofs.Thinning.{rejoin}
@@ -77,11 +77,10 @@ module _ (T F : Bytes) (size room : ℕ) where
         → Roomy again (length w') × (w' ≡ zeros (length w')) × Rooted F again (st .job .place) (st .job .name)
     round-again h w' lw wipes =
         let k = h .stands .rooted in
-        let s = standing (h .stands) in
-        (
+        let s = standing (h .stands) in (
           (h .stands .safe .small, omega (arith, h .stands .safe .room, lw)),
           wipes (k .schema) (in-use (s .rep)) ∙ ap zeros (sym lw),
-          record { schema = k .schema; def = k .def; whole = k .whole; entries = k .entries; wins = k .wins; found = k .found }
+          record { schema = k .schema; def = k .def; whole = k .whole; entries = k .entries; wins = k .wins; found = k .found },
         )
 
     -- another round
@@ -92,7 +91,7 @@ module _ (T F : Bytes) (size room : ℕ) where
         let k = h .stands .rooted in
         let es : List Remark = metIn (h .stands) in
         let x = takes (record { schema = k .schema; def = k .def; whole = k .whole; entries = k .entries; wins = k .wins; found = k .found })
-            (ap (λ (n : ℕ). build T F n size room) lw ∙ h .stands .builds) (next-within (h .stands)) (h .count) zs len (none-left l zs es left) in
+        (ap (λ (n : ℕ). build T F n size room) lw ∙ h .stands .builds) (next-within (h .stands)) (h .count) zs len (none-left l zs es left) in
         let n : 0 + (length es - st .job .p .next) ≤ st .job .p .rows - (st .row + 1) + (st .job .p .seen - st .job .p .next) = omega (arith, seen-is (h .stands)) in
         let p : (0 + (length es - st .job .p .next)) * (room + 1) ≤ (st .job .p .rows - (st .row + 1) + (st .job .p .seen - st .job .p .next)) * (room + 1) = mul-le-mul-right (room + 1) n in
         (x .0, omega (arith, p, x .1))
@@ -116,14 +115,14 @@ module _ (T F : Bytes) (size room : ℕ) where
           → Goes T F size room (soughtAt room (takenAt J count) 0) zs w (bound room 0 (length (metIn k) - R .skip) 0)
       some-rows k l n zs len t =
           let x = sought T F size room w (takenAt J count) zs 0
-              (record {
-                len = len;
-                fit = record { stands = k; going = refl; some = l; count = n; base = omega arith };
-                upto = omega arith;
-                left = ap (λ (i : ℕ). thinned (take count zs) (rowsIn w 32768 i ++ drop (p .next) (metIn k))) (sub-zero (p .rows)) ∙ taken-left k zs t;
-                own = λ i j a b c d. absurd (lt-irrefl 0 (omega (arith, a, b)));
-                apart = below-none (λ (i : ℕ). sameRemark (getD zs i zeroRemark) (rowOf w 0) ≡ false);
-              }) in
+          (record {
+            len = len;
+            fit = record { stands = k; going = refl; some = l; count = n; base = omega arith };
+            upto = omega arith;
+            left = ap (λ (i : ℕ). thinned (take count zs) (rowsIn w 32768 i ++ drop (p .next) (metIn k))) (sub-zero (p .rows)) ∙ taken-left k zs t;
+            own = λ i j a b c d. absurd (lt-irrefl 0 (omega (arith, a, b)));
+            apart = below-none (λ (i : ℕ). sameRemark (getD zs i zeroRemark) (rowOf w 0) ≡ false);
+          }) in
           let m : p .rows - 0 + (p .seen - p .next) ≤ 0 + (length (metIn k) - R .skip) = omega (arith, rows-fewer k, seen-is k, next-within k) in
           let e : (p .rows - 0 + (p .seen - p .next)) * (room + 1) ≤ (0 + (length (metIn k) - R .skip)) * (room + 1) = mul-le-mul-right (room + 1) m in
           (x .0, omega (arith, e, x .1))
@@ -136,7 +135,7 @@ module _ (T F : Bytes) (size room : ℕ) where
           let f : p .seen ≤ p .next = not-full (p .next) (p .seen) (p .rows) z (rows-fill k) in
           let o : drop (p .next) (metIn k) ≡ [] = drop-of-length-le (metIn k) {i = p .next} (omega (arith, f, seen-is k)) in
           let u : take count zs ≡ thin (metIn k) =
-              ap (thinned (take count zs)) (sym o) ∙ ap (λ (i : ℕ). thinned (take count zs) (rowsIn w 32768 i ++ drop (p .next) (metIn k))) (sym z) ∙ taken-left k zs t in
+          ap (thinned (take count zs)) (sym o) ∙ ap (λ (i : ℕ). thinned (take count zs) (rowsIn w 32768 i ++ drop (p .next) (metIn k))) (sym z) ∙ taken-left k zs t in
           let x = judges T room k zs len n u in
           (x .0, omega (arith, x .1))
 

@@ -23,7 +23,7 @@ use Rattle.area.specs.Area.{Rep}
 use Rattle.area.specs.Posts.{gives, refuses, Meets, Stopped}
 use Rattle.area.proofs.Noting.{rows-are}
 use Rattle.pso_write.specs.declared.Job.{Job}
-use Rattle.pso_write.specs.Files.{InUse, tableAt}
+use Rattle.assemble.specs.Packed.{InUse, tableAt}
 use Rattle.pso_write.specs.Rounds.{runOf, made, Standing, metIn}
 use Rattle.pso_write.specs.Merge.{rowOf}
 use Rattle.pso_write.proofs.Thinning.{Distinct, distinct-thin}

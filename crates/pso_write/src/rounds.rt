@@ -1,11 +1,11 @@
 // Rounds: what is checked before the first, one round, and what comes after the last. All but the running is decided by value.
-use area::Progress;
-use area::Round;
 use crate::Job;
 use crate::Stage;
-use crate::file::file_length;
 use crate::run::Ran;
 use crate::run::run_round;
+use area::Progress;
+use area::Round;
+use assemble::file::file_length;
 use schema::check::Checked;
 use schema::check::check_schema;
 use schema::lookup::Found;
@@ -190,7 +190,17 @@ pub fn judged(schema: &[u8], work: &[u8], size: usize, st: Stage) -> Stage
 }
 
 // Runs a round, whose rows are to be merged behind `count` records.
-pub fn take_round(sheet: &[u8], schema: &[u8], work: &mut [u8], size: usize, room: usize, round: Round, place: usize, name: u32, count: usize) -> Stage
+pub fn take_round(
+    sheet: &[u8],
+    schema: &[u8],
+    work: &mut [u8],
+    size: usize,
+    room: usize,
+    round: Round,
+    place: usize,
+    name: u32,
+    count: usize,
+) -> Stage
     requires { ⌜ Roomy round (length (now work)) × (now work ≡ zeros (length (now work))) × Rooted (now schema) round place name ⌝ }
     ensures { λ r. ⌜ Takes (now (sheet .entry)) (now (schema .entry)) size room round place name count r (now (work .exit)) ⌝ }
 {

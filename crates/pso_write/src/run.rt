@@ -13,7 +13,14 @@ pub enum Ran {
 }
 
 // Runs the layout from its beginning to its end.
-pub fn run_round(sheet: &[u8], schema: &[u8], work: &mut [u8], round: Round, place: usize, name: u32) -> Ran
+pub fn run_round(
+    sheet: &[u8],
+    schema: &[u8],
+    work: &mut [u8],
+    round: Round,
+    place: usize,
+    name: u32,
+) -> Ran
     requires { ⌜ Roomy round (length (now work)) × (now work ≡ zeros (length (now work))) × Rooted (now schema) round place name ⌝ }
     ensures { λ r. ⌜ Runs (now (sheet .entry)) (now (schema .entry)) round (length (now (work .entry))) name r (now (work .exit)) ⌝ }
 {

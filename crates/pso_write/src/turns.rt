@@ -1,17 +1,17 @@
 // The driver's steps: what each turn makes of the record that it is given.
-use area::notes::row_at;
-use area::notes::same;
 use crate::Built;
 use crate::Stage;
 use crate::Turn;
-use crate::file::put_file;
-use crate::file::wipe;
 use crate::rounds::Opening;
 use crate::rounds::judged;
 use crate::rounds::opened;
 use crate::rounds::refusal;
 use crate::rounds::seek;
 use crate::rounds::take_round;
+use area::notes::row_at;
+use area::notes::same;
+use assemble::file::put_file;
+use assemble::file::wipe;
 use layout::Remark;
 use numbers::words::clear;
 ghost use mathlib.Core.Path.{_≡_};
@@ -26,12 +26,29 @@ pub fn first(sheet: &[u8], schema: &[u8], work: &mut [u8], size: usize, room: us
     clear(work, 0, n);
     match opened(sheet, schema, n) {
         Opening::Refused(k) => refusal(k),
-        Opening::Go(round, place, name) => take_round(sheet, schema, work, size, room, round, place, name, 0),
+        Opening::Go(round, place, name) => take_round(
+            sheet,
+            schema,
+            work,
+            size,
+            room,
+            round,
+            place,
+            name,
+            0,
+        ),
     }
 }
 
 // A row is done with: the next one; or the next round; or the end.
-fn passed(sheet: &[u8], schema: &[u8], work: &mut [u8], size: usize, room: usize, st: Stage) -> Stage
+fn passed(
+    sheet: &[u8],
+    schema: &[u8],
+    work: &mut [u8],
+    size: usize,
+    room: usize,
+    st: Stage,
+) -> Stage
     requires { ⌜ Fit (now sheet) (now schema) (now work) size room st ⌝ }
     ensures { λ r. ⌜ Passes (now (sheet .entry)) (now (schema .entry)) size room st (now (work .entry)) r (now (work .exit)) ⌝ }
 {
@@ -47,11 +64,29 @@ fn passed(sheet: &[u8], schema: &[u8], work: &mut [u8], size: usize, room: usize
     wipe(work, j.round, j.p);
     let mut round = j.round;
     round.skip = j.p.next;
-    take_round(sheet, schema, work, size, room, round, j.place, j.name, st.count)
+    take_round(
+        sheet,
+        schema,
+        work,
+        size,
+        room,
+        round,
+        j.place,
+        j.name,
+        st.count,
+    )
 }
 
 // One turn: record `at` is `old`.
-pub fn turn(sheet: &[u8], schema: &[u8], work: &mut [u8], size: usize, room: usize, st: Stage, old: Remark) -> Turn
+pub fn turn(
+    sheet: &[u8],
+    schema: &[u8],
+    work: &mut [u8],
+    size: usize,
+    room: usize,
+    st: Stage,
+    old: Remark,
+) -> Turn
     requires { ⌜ Ready (now sheet) (now schema) size room st (now work) ⌝ }
     ensures { λ t. ⌜ Steps (now (sheet .entry)) (now (schema .entry)) size room st old (now (work .entry)) t (now (work .exit)) ⌝ }
 {
@@ -81,7 +116,14 @@ pub fn turn(sheet: &[u8], schema: &[u8], work: &mut [u8], size: usize, room: usi
 }
 
 // The answer, the file on success alone, and the work area zero.
-pub fn last(sheet: &[u8], schema: &[u8], out: &mut [u8], work: &mut [u8], room: usize, st: Stage) -> Built
+pub fn last(
+    sheet: &[u8],
+    schema: &[u8],
+    out: &mut [u8],
+    work: &mut [u8],
+    room: usize,
+    st: Stage,
+) -> Built
     requires { ⌜ Closing (now sheet) (now schema) (length (now out)) room (st .job) (st .length) (st .count) (now work) ⌝ }
     ensures { λ r. ⌜ Ends (now (sheet .entry)) (now (schema .entry)) room (length (now (work .entry))) (now (out .entry)) r (now (out .exit)) (now (work .exit)) ⌝ }
 {

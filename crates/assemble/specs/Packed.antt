@@ -1,0 +1,69 @@
+-- The whole file from a work area, and the work area after it.
+use Prim.Native.Nat.{ℕ, _+_, _*_, _≤_}
+use mathlib.Core.Path.{_≡_}
+use mathlib.Core.Bool.{true, false}
+use mathlib.Core.List.{_++_}
+use lib.ListN.{length}
+use Rattle.numbers.specs.Words.{Bytes, over, zeros}
+use Rattle.numbers.specs.Result.{ok}
+use Rattle.schema.specs.Defs.{Schema, winning}
+use Rattle.schema.specs.Psch.{schemaOf}
+use Rattle.layout.specs.State.{State}
+use Rattle.layout.specs.Demand3.{Every}
+use Rattle.layout.specs.Assemble.{Records, fileOf}
+use Rattle.layout.proofs.Tiling.{Tiled}
+use Rattle.area.specs.declared.Round.{Round}
+use Rattle.area.specs.declared.Progress.{Progress}
+use Rattle.area.specs.Rows.{namesIn}
+use Rattle.area.specs.Area.{Rep}
+use Rattle.assemble.specs.Used.{recordsFor, Stored}
+
+-- "used structures, used enums", by the names in the work area
+abbrev pub usedRecords : Bytes → Round → Progress → Bytes → Records
+usedRecords F R p w = recordsFor F false (namesIn w 65536 (p .structs)) ++ recordsFor F true (namesIn w (65536 + 4 * R .entries) (p .enums))
+
+-- each of the names stands for a definition that lies in the schema file
+pub record AllStored (F : Bytes) (R : Round) (p : Progress) (w : Bytes) : Type 0 where
+  pub structs : Every (Stored F false) (namesIn w 65536 (p .structs))
+  pub enums : Every (Stored F true) (namesIn w (65536 + 4 * R .entries) (p .enums))
+
+-- the area w, with the numbers p, holds the state s of a layout over the schema file's definitions
+pub record Holds (F : Bytes) (R : Round) (p : Progress) (w : Bytes) (S : Schema) (s : State) (σ : Bytes) : Type 0 where
+  pub schema : schemaOf F ≡ ok S
+  pub rep : Rep S R (length w) s σ p w
+  pub tiled : Tiled (s .core)
+
+-- not 13: the file is no longer than the output, of `room` bytes, nor "than 16,777,216"
+pub record Fitting (F : Bytes) (R : Round) (p : Progress) (w : Bytes) (pointer room : ℕ) (S : Schema) (s : State) (σ : Bytes) : Type 0 where
+  pub holds : Holds F R p w S s σ
+  pub fits : length (fileOf (winning S) pointer (s .core)) ≤ room
+  pub small : length (fileOf (winning S) pointer (s .core)) ≤ 16777216
+
+-- .. of some state
+pub record SomeFitting (F : Bytes) (R : Round) (p : Progress) (w : Bytes) (pointer room : ℕ) : Type 0 where
+  pub schema : Schema
+  pub state : State
+  pub stack : Bytes
+  pub fitting : Fitting F R p w pointer room schema state stack
+
+-- where the table of places begins
+abbrev pub tableAt : ℕ
+tableAt = 49152
+
+-- the area w is one that holds a state, with or without the table of places
+pub record InUse (S : Schema) (R : Round) (n : ℕ) (p : Progress) (w : Bytes) : Type 0 where
+  pub state : State
+  pub stack : Bytes
+  pub before : Bytes
+  pub table : Bytes
+  pub rep : Rep S R n state stack p before
+  pub few : length table ≤ 4 * p .blocks
+  pub is : w ≡ over before tableAt table
+
+-- the rows of blocks and of remarks, and the table of places, set to 0
+abbrev pub rowsWiped : Bytes → ℕ → ℕ → Bytes
+rowsWiped w blocks rows = over (over (over w 0 (zeros (8 * blocks))) 32768 (zeros (16 * rows))) tableAt (zeros (4 * blocks))
+
+-- the used names set to 0
+abbrev pub namesWiped : Bytes → ℕ → ℕ → ℕ → Bytes
+namesWiped w entries structs enums = over (over w 65536 (zeros (4 * structs))) (65536 + 4 * entries) (zeros (4 * enums))

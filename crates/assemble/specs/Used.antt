@@ -1,0 +1,52 @@
+-- The used definitions, from the schema file to PSCH.
+use Prim.Native.Nat.{ℕ, _+_, _*_, _≤_, _<_}
+use mathlib.Core.Path.{_≡_}
+use mathlib.Core.Bool.{Bool, true, false}
+use mathlib.Core.List.{List, [], map}
+use mathlib.Core.Option.{some}
+use lib.ListN.{length}
+use Rattle.numbers.specs.Words.{Bytes, readAt}
+use Rattle.numbers.specs.Result.{mapOption, orValue}
+use Rattle.schema.specs.Psch.{structHere, enumHere}
+use Rattle.schema.specs.Index.{lastPlace}
+use Rattle.schema.proofs.Judge.{Within}
+use Rattle.layout.specs.Assemble.{structBytes, enumBytes, Records}
+use Rattle.layout.proofs.ReadDefs.{bodies}
+
+-- the kind of a definition: "zero byte" for a structure, "byte 1" for an enum
+abbrev pub kindOf : Bool → ℕ
+kindOf false = 0
+kindOf true = 1
+
+-- the bytes of the structure or the enum at a place of the schema file; its name is not among them
+abbrev pub definitionAt : Bytes → Bool → ℕ → Bytes
+definitionAt F false at = structBytes (structHere F 0 at)
+definitionAt F true at = enumBytes (enumHere F 0 at)
+
+-- the bytes of the one that a name stands for
+abbrev pub bodyOf : Bytes → Bool → ℕ → Bytes
+bodyOf F k name = orValue (mapOption (definitionAt F k) (lastPlace F (kindOf k) name)) []
+
+-- each name with its definition's bytes
+abbrev pub recordsFor : Bytes → Bool → List ℕ → Records
+recordsFor F k ns = map (λ n. (n, bodyOf F k n)) ns
+
+-- what records take in PSCH behind its head: an index entry of 8 bytes and the definition, each
+abbrev pub sizeOf : Records → ℕ
+sizeOf rs = 8 * length rs + length (bodies rs)
+
+-- a definition of the kind stands at the place, and all of it lies in the file
+pub record Lies (F : Bytes) (k : Bool) (at : ℕ) : Type 0 where
+  pub top : readAt 1 F at ≡ kindOf k
+  pub within : Within F (kindOf k) at
+
+-- a name stands for a definition that lies in the file
+pub record Stored (F : Bytes) (k : Bool) (name : ℕ) : Type 0 where
+  pub place : ℕ
+  pub found : lastPlace F (kindOf k) name ≡ some place
+  pub lies : Lies F k place
+
+-- a length that was counted up to "16,777,216" only, where 13 is certain
+pub record Counts (r x : ℕ) : Type 0 where
+  pub exact : r ≤ 16777216 → r ≡ x
+  pub long : 16777216 < r → 16777216 < x
