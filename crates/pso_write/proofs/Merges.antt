@@ -1,0 +1,258 @@
+-- The merge, by value: each turn keeps `Inv` and leaves fewer turns. Assumes nothing.
+use mathlib.Core.Path.{_≡_, refl, sym, ap, subst, _∙_}
+use mathlib.Core.Bool.{Bool, true, false, false≢true, true≢false}
+use mathlib.Core.List.{List, [], _∷_, _++_, append-assoc}
+use Prim.Native.Nat.{ℕ, zero, suc, _+_, _*_, _-_, _<_, _≤_, zero-le}
+use native.Mathlib.Numerals.{add-one}
+use native.Mathlib.Nat.{lt-irrefl, suc-mul, mul-le-mul-right}
+use native.Mathlib.Omega.{arith}
+use lib.Dec.{eqb, ltb}
+use lib.ListN.{length, getD, take, drop, set, replicate, length-append, length-set, replicate-append-replicate}
+use lib.Seq.{length-take-le, take-suc-set, getD-take, set-getD, getD-set-same, getD-set-other}
+use borrow.Author.Count.{below-more}
+use borrow.Author.Tests.{eq-eqb, ne-eqb, eqb-true, eqb-false, lt-ltb, le-ltb, ltb-true, ltb-false}
+use Rattle.numbers.specs.Words.{Bytes}
+use Rattle.numbers.specs.Result.{refused}
+use Rattle.layout.specs.State.{Remark, sameRemark, remarked, noted, thinned, thin}
+use Rattle.layout.specs.Build.{zeroRemark, build}
+use Rattle.area.specs.Rows.{rowsIn}
+use Rattle.pso_write.specs.declared.Stage.{Stage}
+use Rattle.pso_write.specs.Rounds.{metIn}
+use Rattle.pso_write.specs.Merge.{refusalOf, movedTo, withCount, soughtAt, remarksIn, filled, rowOf, Fit, Left, Own, Merging, Closed, Inv, bound, turns, Goes, Passes, Steps}
+use Rattle.pso_write.proofs.Thinning.{noted-in, noted-out, longer, found, absent}
+use Rattle.pso_write.proofs.Standings.{refuses-full, rows-distinct}
+
+-- turns
+turns-seeking : (room : ℕ) (st : Stage) → st .last ≡ false → turns room st ≡ bound room (st .job .p .rows - st .row) (st .job .p .seen - st .job .p .next) (st .at)
+unfolding turns
+turns-seeking room st e = rw e refl
+
+pub turns-last : (room : ℕ) (st : Stage) → st .last ≡ true → turns room st ≡ room - st .at
+unfolding turns
+turns-last room st e = rw e refl
+
+product : (x r : ℕ) → 1 ≤ x → r + 1 ≤ x * (r + 1)
+product x r h = let e : 1 * (r + 1) ≤ x * (r + 1) = mul-le-mul-right (r + 1) h in omega (arith, e)
+
+turns-fall : (room : ℕ) (st : Stage) (n : ℕ) → st .last ≡ false → st .row < st .job .p .rows → st .at < room
+    → n ≤ bound room (st .job .p .rows - (st .row + 1)) (st .job .p .seen - st .job .p .next) 0 → n < turns room st
+turns-fall room st n l h a b =
+    let m : ℕ = st .job .p .seen - st .job .p .next in
+    let y : ℕ = st .job .p .rows - (st .row + 1) + m in
+    let e : st .job .p .rows - st .row + m ≡ suc y = omega (arith, h) in
+    let p : (st .job .p .rows - st .row + m) * (room + 1) ≡ y * (room + 1) + (room + 1) = ap (λ (k : ℕ). k * (room + 1)) e ∙ suc-mul y (room + 1) in
+    omega (arith, turns-seeking room st l, p, b, a)
+
+-- the code's ways
+module _ (room : ℕ) (st : Stage) (k : ℕ) where
+  pub sought-before : k < st .base → movedTo st k ≡ soughtAt room st k
+  unfolding soughtAt
+  sought-before h = rw (lt-ltb k (st .base) h) refl
+
+  pub sought-full : (r : Stage) → r ≡ refusalOf 14 → st .base ≤ k → st .count ≡ room → r ≡ soughtAt room st k
+  unfolding soughtAt
+  sought-full r e h q = rw (le-ltb k (st .base) h, eq-eqb (st .count) room q) e
+
+  pub sought-behind : st .base ≤ k → (st .count ≡ room → ⊥) → movedTo st (st .count) ≡ soughtAt room st k
+  unfolding soughtAt
+  sought-behind h q = rw (le-ltb k (st .base) h, ne-eqb (st .count) room q) refl
+
+module _ (T F : Bytes) (size room : ℕ) where
+  -- a refusal
+  pub closes : (k : ℕ) (zs : List Remark) (w : Bytes) → build T F (length w) size room ≡ refused k → Inv T F size room (refusalOf k) zs w
+  unfolding filled
+  closes k zs w e = (
+    λ q. absurd (true≢false q),
+    λ _. record {
+      closing = record { counts = ap (λ x. length (remarksIn x)) (sym e); bad = λ _. e; well = λ q. absurd (false≢true q) };
+      upto = zero-le;
+      behind = zero-le;
+      front = ap (λ x. filled 0 (remarksIn x)) (sym e);
+    },
+  )
+
+  -- a row that is looked for, from record k on
+  pub record Seeks (w : Bytes) (st : Stage) (zs : List Remark) (k : ℕ) : Type 0 where
+    pub len : length zs ≡ room
+    pub fit : Fit T F w size room st
+    pub upto : k ≤ st .base
+    pub left : Left (metIn (fit .stands)) w st (st .row) zs
+    pub own : Own w st (st .row) zs
+    pub apart : (i : ℕ) → i < k → sameRemark (getD zs i zeroRemark) (rowOf w (st .row)) ≡ false
+
+  -- the row is the next to be merged
+  some-left : (w : Bytes) (st : Stage) (zs : List Remark) (es : List Remark) → st .row < st .job .p .rows → Left es w st (st .row) zs
+      → thinned (noted (rowOf w (st .row)) (take (st .count) zs)) (rowsIn w (32768 + 16 * (st .row + 1)) (st .job .p .rows - (st .row + 1)) ++ drop (st .job .p .next) es) ≡ thin es
+  unfolding rowsIn thinned
+  some-left w st zs es h l =
+      let e : st .job .p .rows - st .row ≡ suc (st .job .p .rows - (st .row + 1)) = omega (arith, h) in
+      let f : 32768 + 16 * (st .row + 1) ≡ 32768 + 16 * st .row + 16 = omega arith in
+      ap (λ (a : ℕ). thinned (noted (rowOf w (st .row)) (take (st .count) zs)) (rowsIn w a (st .job .p .rows - (st .row + 1)) ++ drop (st .job .p .next) es)) f
+      ∙ ap (λ (m : ℕ). thinned (take (st .count) zs) (rowsIn w (32768 + 16 * st .row) m ++ drop (st .job .p .next) es)) (sym e)
+      ∙ l
+
+  -- no record before n equals it
+  not-there : (zs : List Remark) (r : Remark) (n : ℕ) → n ≤ length zs → ((k : ℕ) → k < n → sameRemark (getD zs k zeroRemark) r ≡ false) → remarked r (take n zs) ≡ false
+  not-there zs r n h f =
+      absent (take n zs) r
+      (λ k l. let g : k < n = subst (λ (m : ℕ). k < m) (length-take-le n zs h) l in ap (λ (x : Remark). sameRemark x r) (getD-take n zs k zeroRemark g) ∙ f k g)
+
+  module _ (w : Bytes) (st : Stage) (zs : List Remark) (k : ℕ) (h : Seeks w st zs k) where
+    -- where the records of earlier rounds are looked through, none of all equals the row
+    all-apart : st .base ≤ k → (i : ℕ) → i < st .count → sameRemark (getD zs i zeroRemark) (rowOf w (st .row)) ≡ false
+    all-apart b i l = go (ltb i (st .base)) refl
+      where
+        go : (t : Bool) → ltb i (st .base) ≡ t → sameRemark (getD zs i zeroRemark) (rowOf w (st .row)) ≡ false
+        go true q = h .apart i (omega (arith, ltb-true i (st .base) q, b))
+        go false q = h .own i (st .row) (ltb-false i (st .base) q) l (omega arith) (h .fit .some)
+
+    merging : (a : ℕ) → a < room → (st .base ≤ a → a ≡ st .count) → ((i : ℕ) → i < a → sameRemark (getD zs i zeroRemark) (rowOf w (st .row)) ≡ false) → k ≤ a
+        → Goes T F size room (movedTo st a) zs w (bound room (st .job .p .rows - st .row) (st .job .p .seen - st .job .p .next) k)
+    merging a l s f g = (
+      (
+        λ _. record {
+          fit = record { stands = h .fit .stands; going = h .fit .going; some = h .fit .some; count = h .fit .count; base = h .fit .base };
+          place = l;
+          settled = s;
+          left = h .left;
+          own = h .own;
+          apart = f;
+        },
+        λ q. absurd (false≢true (sym (h .fit .going) ∙ q)),
+      ),
+      omega (arith, turns-seeking room (movedTo st a) (h .fit .going), g),
+    )
+
+    overfull : st .base ≤ k → st .count ≡ room → build T F (length w) size room ≡ refused 14
+    overfull b n =
+        let es : List Remark = metIn (h .fit .stands) in
+        let acc : List Remark = take (st .count) zs in
+        let r : Remark = rowOf w (st .row) in
+        let ys : List Remark = rowsIn w (32768 + 16 * (st .row + 1)) (st .job .p .rows - (st .row + 1)) ++ drop (st .job .p .next) es in
+        let fits : st .count ≤ length zs = omega (arith, n, h .len) in
+        let m : remarked r acc ≡ false = not-there zs r (st .count) fits (all-apart b) in
+        let t : thinned (noted r acc) ys ≡ thin es = some-left w st zs es (h .fit .some) (h .left) in
+        let g : length (noted r acc) ≤ length (thin es) = subst (λ (l : List Remark). length (noted r acc) ≤ length l) t (longer (noted r acc) ys) in
+        let d : length (noted r acc) ≡ st .count + 1 = ap length (noted-out r acc m) ∙ length-append acc (r ∷ []) ∙ ap (λ (i : ℕ). i + 1) (length-take-le (st .count) zs fits) in
+        refuses-full (h .fit .stands) (omega (arith, g, d, n))
+
+    sought-case : (b c : Bool) → ltb k (st .base) ≡ b → eqb (st .count) room ≡ c
+        → Goes T F size room (soughtAt room st k) zs w (bound room (st .job .p .rows - st .row) (st .job .p .seen - st .job .p .next) k)
+    unfolding soughtAt
+    sought-case true c p q =
+        let l : k < st .base = ltb-true k (st .base) p in
+        rw p (merging k (omega (arith, l, h .fit .base, h .fit .count)) (λ g. absurd (lt-irrefl 0 (omega (arith, g, l)))) (h .apart) (omega arith))
+    sought-case false true p q =
+        let b : st .base ≤ k = ltb-false k (st .base) p in
+        let e : room + 1 ≤ (st .job .p .rows - st .row + (st .job .p .seen - st .job .p .next)) * (room + 1) = product _ room (omega (arith, h .fit .some)) in
+        rw (p, q) (closes 14 zs w (overfull b (eqb-true (st .count) room q)), omega (arith, turns-last room (refusalOf 14) refl, e))
+    sought-case false false p q =
+        let b : st .base ≤ k = ltb-false k (st .base) p in
+        rw (p, q)
+        (merging (st .count) (omega (arith, eqb-false (st .count) room q, h .fit .count)) (λ _. refl) (all-apart b) (omega (arith, h .upto, h .fit .base)))
+
+    pub sought : Goes T F size room (soughtAt room st k) zs w (bound room (st .job .p .rows - st .row) (st .job .p .seen - st .job .p .next) k)
+    sought = sought-case (ltb k (st .base)) (eqb (st .count) room) refl refl
+
+  -- a turn
+  filled-one : (n : ℕ) (xs : List Remark) → length xs ≤ n → filled n xs ++ (zeroRemark ∷ []) ≡ filled (n + 1) xs
+  unfolding filled
+  filled-one n xs h =
+      let e : n - length xs + 1 ≡ n + 1 - length xs = omega (arith, h) in
+      append-assoc xs (replicate (n - length xs) zeroRemark) (zeroRemark ∷ [])
+      ∙ ap (λ (l : List Remark). xs ++ l) (replicate-append-replicate (n - length xs) 1 zeroRemark ∙ ap (λ (k : ℕ). replicate k zeroRemark) e)
+
+  module _ (st : Stage) (old : Remark) (w : Bytes) (place : st .at < room) where
+    -- a record becomes zero
+    pub step-last : st .last ≡ true → Steps T F size room st old w (record { st = movedTo st (st .at + 1); new = zeroRemark }) w
+    step-last l zs len eo inv =
+        let k : Closed T F size room st zs w = inv .1 l in (
+          (
+            λ q. absurd (true≢false (sym l ∙ q)),
+            λ _. record {
+              closing = k .closing;
+              upto = omega (arith, place);
+              behind = omega (arith, k .behind);
+              front = ap (λ (j : ℕ). take j (set zs (st .at) zeroRemark)) (add-one (st .at)) ∙ take-suc-set zs (st .at) zeroRemark (omega (arith, place, len))
+                  ∙ ap (λ (x : List Remark). x ++ (zeroRemark ∷ [])) (k .front)
+                  ∙ filled-one (st .at) (remarksIn (build T F (length w) size room)) (omega (arith, k .behind, k .closing .counts));
+            },
+          ),
+          omega (arith, turns-last room (movedTo st (st .at + 1)) l, turns-last room st l, place),
+        )
+
+    module _ (last : st .last ≡ false) (fit : Fit T F w size room st) where
+      -- the record equals the row
+      pub step-found : st .at < st .base → sameRemark old (rowOf w (st .row)) ≡ true → (r : Stage) (w' : Bytes) → Passes T F size room st w r w'
+          → Steps T F size room st old w (record { st = r; new = old }) w'
+      step-found h same r w' passes zs len eo inv =
+          let m : Merging T F size room st zs w = inv .0 last in
+          let es : List Remark = metIn (m .fit .stands) in
+          let acc : List Remark = take (st .count) zs in
+          let x : Remark = rowOf w (st .row) in
+          let c : st .at < st .count = omega (arith, h, fit .base) in
+          let lt : st .at < length acc = omega (arith, c, length-take-le (st .count) zs (omega (arith, fit .count, len))) in
+          let mem : remarked x acc ≡ true = found acc x (st .at) lt (ap (λ (y : Remark). sameRemark y x) (getD-take (st .count) zs (st .at) zeroRemark c ∙ sym eo) ∙ same) in
+          let g = passes (m .fit) zs len
+          (ap (λ (l : List Remark). thinned l (rowsIn w (32768 + 16 * (st .row + 1)) (st .job .p .rows - (st .row + 1)) ++ drop (st .job .p .next) es)) (sym (noted-in x acc mem))
+          ∙ some-left w st zs es (fit .some) (m .left))
+          (λ k j a b c d. m .own k j a b (omega (arith, c)) d) in (
+            subst (λ (l : List Remark). Inv T F size room r l w') (sym (ap (set zs (st .at)) eo ∙ set-getD zs (st .at) zeroRemark)) (g .0),
+            turns-fall room st (turns room r) last (fit .some) place (g .1),
+          )
+
+      -- it does not: the next one
+      pub step-next : st .at < st .base → sameRemark old (rowOf w (st .row)) ≡ false → (r : Stage) → r ≡ soughtAt room st (st .at + 1)
+          → Steps T F size room st old w (record { st = r; new = old }) w
+      step-next h differ r q zs len eo inv =
+          let m : Merging T F size room st zs w = inv .0 last in
+          let g = sought w st zs (st .at + 1)
+          (record {
+            len = len;
+            fit = m .fit;
+            upto = omega (arith, h);
+            left = m .left;
+            own = m .own;
+            apart = below-more (λ (k : ℕ). sameRemark (getD zs k zeroRemark) (rowOf w (st .row)) ≡ false) (st .at) (m .apart)
+                (ap (λ (y : Remark). sameRemark y (rowOf w (st .row))) (sym eo) ∙ differ);
+          }) in
+          let t : turns room (soughtAt room st (st .at + 1)) < turns room st = omega (arith, turns-seeking room st last, g .1, place) in (
+            subst (λ (l : List Remark). Inv T F size room r l w) (sym (ap (set zs (st .at)) eo ∙ set-getD zs (st .at) zeroRemark)) (subst (λ (x : Stage). Inv T F size room x zs w) (sym q) (g .0)),
+            subst (λ (x : Stage). turns room x < turns room st) (sym q) t,
+          )
+
+      pub fit-put : (st .base ≤ st .at → st .at ≡ st .count) → st .base ≤ st .at → Fit T F w size room (withCount st (st .count + 1))
+      fit-put s h = record { stands = fit .stands; going = last; some = fit .some; count = omega (arith, s h, place); base = omega (arith, fit .base) }
+
+      -- .. with the row there, none of this round's records is one of the rows behind it
+      own-put : (zs : List Remark) → length zs ≡ room → st .at ≡ st .count → (x : Remark) → x ≡ rowOf w (st .row) → Own w st (st .row) zs
+          → Own w (withCount st (st .count + 1)) (st .row + 1) (set zs (st .at) x)
+      own-put zs len a x ex own k j b c d e = go (eqb k (st .at)) refl
+        where
+          go : (t : Bool) → eqb k (st .at) ≡ t → sameRemark (getD (set zs (st .at) x) k zeroRemark) (rowOf w j) ≡ false
+          go true q =
+              ap (λ (i : ℕ). sameRemark (getD (set zs (st .at) x) i zeroRemark) (rowOf w j)) (eqb-true k (st .at) q)
+              ∙ ap (λ (y : Remark). sameRemark y (rowOf w j)) (getD-set-same zs (st .at) x zeroRemark (omega (arith, place, len)) ∙ ex)
+              ∙ rows-distinct (fit .stands) (st .row) j (omega (arith, d)) e
+          go false q =
+              ap (λ (y : Remark). sameRemark y (rowOf w j)) (getD-set-other zs (st .at) k x zeroRemark (eqb-false k (st .at) q))
+              ∙ own k j b (omega (arith, c, a, eqb-false k (st .at) q)) (omega (arith, d)) e
+
+      -- the row is put behind the others
+      pub step-put : st .base ≤ st .at → (x : Remark) → x ≡ rowOf w (st .row) → (r : Stage) (w' : Bytes) → Passes T F size room (withCount st (st .count + 1)) w r w'
+          → Steps T F size room st old w (record { st = r; new = x }) w'
+      step-put h x ex r w' passes zs len eo inv =
+          let m : Merging T F size room st zs w = inv .0 last in
+          let es : List Remark = metIn (m .fit .stands) in
+          let a : st .at ≡ st .count = m .settled h in
+          let acc : List Remark = take (st .count) zs in
+          let out : remarked x acc ≡ false = not-there zs x (st .count) (omega (arith, fit .count, len)) (λ k l. ap (sameRemark (getD zs k zeroRemark)) ex ∙ m .apart k (omega (arith, l, a))) in
+          let zs′ : List Remark = set zs (st .at) x in
+          let t : take (st .count + 1) zs′ ≡ noted (rowOf w (st .row)) acc =
+          ap (λ (j : ℕ). take j zs′) (add-one (st .count)) ∙ ap (λ (j : ℕ). take (suc (st .count)) (set zs j x)) a ∙ take-suc-set zs (st .count) x (omega (arith, a, place, len))
+          ∙ sym (noted-out x acc out) ∙ ap (λ (y : Remark). noted y acc) ex in
+          let g = passes (record { stands = m .fit .stands; going = last; some = fit .some; count = omega (arith, a, place); base = omega (arith, fit .base) }) zs′ (length-set zs (st .at) x ∙ len)
+          (ap (λ (l : List Remark). thinned l (rowsIn w (32768 + 16 * (st .row + 1)) (st .job .p .rows - (st .row + 1)) ++ drop (st .job .p .next) es)) t
+          ∙ some-left w st zs es (fit .some) (m .left))
+          (own-put zs len a x ex (m .own)) in
+          (g .0, turns-fall room st (turns room r) last (fit .some) place (g .1))

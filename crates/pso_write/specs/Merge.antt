@@ -1,0 +1,191 @@
+-- The merge of the rounds' rows into the lent list. Its invariant: what is left leads to the same end.
+use mathlib.Core.Path.{_≡_}
+use Prim.Native.Nat.{ℕ, _+_, _*_, _-_, _<_, _≤_}
+use mathlib.Core.Bool.{true, false, cond}
+use mathlib.Core.List.{List, [], _++_}
+use lib.Dec.{ltb, eqb}
+use lib.ListN.{length, getD, take, drop, set, replicate}
+use Rattle.numbers.specs.Words.{Bytes, zeros}
+use Rattle.numbers.specs.Result.{Result, ok, refused}
+use Rattle.schema.specs.Defs.{winning}
+use Rattle.layout.specs.State.{Remark, sameRemark, thinned, thin}
+use Rattle.layout.specs.Build as Build
+use Rattle.layout.specs.Build.{build, buildPso, zeroRemark, workNeed, capOf}
+use Rattle.layout.proofs.Grows.{eventsOf}
+use Rattle.area.specs.declared.Round.{Round}
+use Rattle.area.specs.declared.Progress.{Progress}
+use Rattle.area.specs.Rows.{rowIn, rowsIn}
+use Rattle.pso_write.specs.declared.Built.{Built}
+use Rattle.pso_write.specs.declared.Job.{Job}
+use Rattle.pso_write.specs.declared.Stage.{Stage}
+use Rattle.pso_write.specs.declared.Turn.{Turn}
+use Rattle.pso_write.specs.declared.run.Ran.{Ran}
+use Rattle.pso_write.specs.declared.run.Ran.the-variants.{Done, Refused}
+use Rattle.pso_write.specs.declared.rounds.Opening.{Opening}
+use Rattle.pso_write.specs.declared.rounds.Opening.the-variants as O
+use Rattle.pso_write.specs.Answers.{answerOf}
+use Rattle.pso_write.specs.Rounds.{Roomy, Rooted, runOf, made, Standing, metIn, Laid}
+
+-- the stages, by value
+
+abbrev noNumbers : Progress
+noNumbers = record { blocks = 0; rows = 0; structs = 0; enums = 0; end = 0; top = 0; charge = 0; seen = 0; next = 0 }
+
+-- a refusal: "zeroes all remarks"
+abbrev pub refusalOf : ℕ → Stage
+refusalOf k =
+    record {
+      at = 0;
+      last = true;
+      length = 0;
+      base = 0;
+      count = 0;
+      row = 0;
+      job = record { good = false; value = k; place = 0; name = 0; round = record { entries = 0; cap = 0; skip = 0 }; p = noNumbers };
+    }
+
+-- the list is full up to its zeros, and the file has n bytes
+abbrev pub endedAt : Stage → ℕ → Stage
+endedAt st n = record { at = st .count; last = true; length = n; base = st .base; count = st .count; row = st .row; job = st .job }
+
+-- another record is looked at
+abbrev pub movedTo : Stage → ℕ → Stage
+movedTo st k = record { at = k; last = st .last; length = st .length; base = st .base; count = st .count; row = st .row; job = st .job }
+
+-- another row is looked for
+abbrev pub withRow : Stage → ℕ → Stage
+withRow st i = record { at = st .at; last = st .last; length = st .length; base = st .base; count = st .count; row = i; job = st .job }
+
+-- other records are filled
+abbrev pub withCount : Stage → ℕ → Stage
+withCount st n = record { at = st .at; last = st .last; length = st .length; base = st .base; count = n; row = st .row; job = st .job }
+
+-- the row is looked for from record k on: among those of earlier rounds, then it is put behind all; 14: "one more distinct remark than records"
+unfoldable pub soughtAt : ℕ → Stage → ℕ → Stage
+soughtAt room st k = cond (ltb k (st .base)) (movedTo st k) (cond (eqb (st .count) room) (refusalOf 14) (movedTo st (st .count)))
+
+-- a round's job
+abbrev pub jobOf : Ran → Round → ℕ → ℕ → Job
+jobOf (Done x p) R place name = record { good = true; value = x; place = place; name = name; round = R; p = p }
+jobOf (Refused k p) R place name = record { good = false; value = k; place = place; name = name; round = R; p = p }
+
+-- its rows are to be merged behind `count` records
+abbrev pub takenAt : Job → ℕ → Stage
+takenAt j count = record { at = 0; last = false; length = 0; base = count; count = count; row = 0; job = j }
+
+-- the invariant
+
+-- the remarks that building gives
+abbrev pub remarksIn : Result Build.Built → List Remark
+remarksIn (ok b) = b .remarks
+remarksIn (refused n) = []
+
+-- xs, and zeros behind them, n in all
+unfoldable pub filled : ℕ → List Remark → List Remark
+filled n xs = xs ++ replicate (n - length xs) zeroRemark
+
+-- a row of the round
+abbrev pub rowOf : Bytes → ℕ → Remark
+rowOf w i = rowIn w (32768 + 16 * i)
+
+-- a row is being merged
+pub record Fit (T F w : Bytes) (size room : ℕ) (st : Stage) : Type 0 where
+  pub stands : Standing T F size room (st .job) w
+  pub going : st .last ≡ false
+  pub some : st .row < st .job .p .rows
+  pub count : st .count ≤ room
+  pub base : st .base ≤ st .count
+
+-- rows from i on, and the remarks after them, are still to be merged
+abbrev pub Left : List Remark → Bytes → Stage → ℕ → List Remark → Type 0
+Left es w st i zs = thinned (take (st .count) zs) (rowsIn w (32768 + 16 * i) (st .job .p .rows - i) ++ drop (st .job .p .next) es) ≡ thin es
+
+-- none of this round's records is a row from i on
+abbrev pub Own : Bytes → Stage → ℕ → List Remark → Type 0
+Own w st i zs = (k j : ℕ) → st .base ≤ k → k < st .count → i ≤ j → j < st .job .p .rows → sameRemark (getD zs k zeroRemark) (rowOf w j) ≡ false
+
+pub record Merging (T F : Bytes) (size room : ℕ) (st : Stage) (zs : List Remark) (w : Bytes) : Type 0 where
+  pub fit : Fit T F w size room st
+  pub place : st .at < room
+  pub settled : st .base ≤ st .at → st .at ≡ st .count
+  pub left : Left (metIn (fit .stands)) w st (st .row) zs
+  pub own : Own w st (st .row) zs
+  pub apart : (k : ℕ) → k < st .at → sameRemark (getD zs k zeroRemark) (rowOf w (st .row)) ≡ false
+
+-- the answer is known
+pub record Closing (T F : Bytes) (size room : ℕ) (j : Job) (len count : ℕ) (w : Bytes) : Type 0 where
+  pub counts : count ≡ length (remarksIn (build T F (length w) size room))
+  pub bad : j .good ≡ false → build T F (length w) size room ≡ refused (j .value)
+  pub well : j .good ≡ true → Laid T F size room j len w
+
+pub record Closed (T F : Bytes) (size room : ℕ) (st : Stage) (zs : List Remark) (w : Bytes) : Type 0 where
+  pub closing : Closing T F size room (st .job) (st .length) (st .count) w
+  pub upto : st .at ≤ room
+  pub behind : st .count ≤ st .at
+  pub front : take (st .at) zs ≡ filled (st .at) (remarksIn (build T F (length w) size room))
+
+-- a row is being merged, or zeros are being written
+abbrev pub Inv : Bytes → Bytes → ℕ → ℕ → Stage → List Remark → Bytes → Type 0
+Inv T F size room st zs w = (st .last ≡ false → Merging T F size room st zs w) × (st .last ≡ true → Closed T F size room st zs w)
+
+-- turns that are left at most, with n rows and m remarks left
+abbrev pub bound : ℕ → ℕ → ℕ → ℕ → ℕ
+bound room n m at = (n + m) * (room + 1) + (room - at)
+
+unfoldable pub turns : ℕ → Stage → ℕ
+turns room st = cond (st .last) (room - st .at) (bound room (st .job .p .rows - st .row) (st .job .p .seen - st .job .p .next) (st .at))
+
+-- the invariant holds, with at most n turns left
+abbrev pub Goes : Bytes → Bytes → ℕ → ℕ → Stage → List Remark → Bytes → ℕ → Type 0
+Goes T F size room st zs w n = Inv T F size room st zs w × (turns room st ≤ n)
+
+-- what the functions say
+
+-- all rows are merged
+abbrev pub Judges : Bytes → ℕ → Stage → Bytes → Stage → Type 0
+Judges F size st w r =
+    (T : Bytes) (room : ℕ) (h : Standing T F size room (st .job) w) (zs : List Remark) → length zs ≡ room → st .count ≤ room → take (st .count) zs ≡ thin (metIn h)
+    → Goes T F size room r zs w room
+
+-- a round runs, and its rows are taken
+abbrev pub Takes : Bytes → Bytes → ℕ → ℕ → Round → ℕ → ℕ → ℕ → Stage → Bytes → Type 0
+Takes T F size room R place name count r w =
+    (h : Rooted F R place name) → build T F (length w) size room ≡ made (winning (h .schema)) size room (runOf T (h .schema) (h .def) R)
+    → R .skip ≤ length (eventsOf (runOf T (h .schema) (h .def) R)) → count ≤ room → (zs : List Remark) → length zs ≡ room
+    → thinned (take count zs) (drop (R .skip) (eventsOf (runOf T (h .schema) (h .def) R))) ≡ thin (eventsOf (runOf T (h .schema) (h .def) R))
+    → Goes T F size room r zs w (bound room 0 (length (eventsOf (runOf T (h .schema) (h .def) R)) - R .skip) 0)
+
+-- a row is done with
+abbrev pub Passes : Bytes → Bytes → ℕ → ℕ → Stage → Bytes → Stage → Bytes → Type 0
+Passes T F size room st w r w' =
+    (h : Fit T F w size room st) (zs : List Remark) → length zs ≡ room → Left (metIn (h .stands)) w st (st .row + 1) zs → Own w st (st .row + 1) zs
+    → Goes T F size room r zs w' (bound room (st .job .p .rows - (st .row + 1)) (st .job .p .seen - st .job .p .next) 0)
+
+-- a turn: record `at` is `old`
+abbrev pub Ready : Bytes → Bytes → ℕ → ℕ → Stage → Bytes → Type 0
+Ready T F size room st w = (st .at < room) × (st .last ≡ false → Fit T F w size room st × (st .base ≤ st .at → st .at ≡ st .count))
+
+abbrev pub Steps : Bytes → Bytes → ℕ → ℕ → Stage → Remark → Bytes → Turn → Bytes → Type 0
+Steps T F size room st old w t w' =
+    (zs : List Remark) → length zs ≡ room → old ≡ getD zs (st .at) zeroRemark → Inv T F size room st zs w
+    → Inv T F size room (t .st) (set zs (st .at) (t .new)) w' × (turns room (t .st) < turns room st)
+
+-- what is refused before the layout, or what it runs with, in a work area of n bytes
+abbrev pub Opens : Bytes → Bytes → ℕ → Opening → Type 0
+Opens T F n (O.Refused k) = (size room : ℕ) → build T F n size room ≡ refused k
+Opens T F n (O.Go R place name) =
+    (h : Rooted F R place name)
+    × (Roomy R n × (R .skip ≡ 0) × ((size room : ℕ) → build T F n size room ≡ made (winning (h .schema)) size room (runOf T (h .schema) (h .def) R)))
+
+-- the rooms of a work area of n bytes; 12
+abbrev pub roomedAt : ℕ → ℕ → ℕ → ℕ → Opening
+roomedAt n i place name = cond (ltb n (workNeed i)) (O.Refused 12) (O.Go (record { entries = i; cap = capOf n i; skip = 0 }) place name)
+
+-- the first round
+abbrev pub Begins : Bytes → Bytes → ℕ → ℕ → Stage → Bytes → Type 0
+Begins T F size room r w = (zs : List Remark) → length zs ≡ room → Inv T F size room r zs w
+
+-- the end: the answer, the output, the work area
+abbrev pub Ends : Bytes → Bytes → ℕ → ℕ → Bytes → Built → Bytes → Bytes → Type 0
+Ends T F room n out r out' w =
+    (answerOf r ≡ buildPso T F n out room .answer) × (out' ≡ buildPso T F n out room .output) × (w ≡ zeros n)

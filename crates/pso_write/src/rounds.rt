@@ -1,0 +1,222 @@
+// Rounds: what is checked before the first, one round, and what comes after the last. All but the running is decided by value.
+use crate::Job;
+use crate::Stage;
+use crate::run::Ran;
+use crate::run::run_round;
+use area::Progress;
+use area::Round;
+use assemble::file::file_length;
+use schema::check::Checked;
+use schema::check::check_schema;
+use schema::lookup::Found;
+use schema::lookup::find_structure;
+use value::check::Sheet;
+use value::check::check_sheet;
+use value::read_row;
+ghost use mathlib.Core.Path.{_≡_};
+ghost use lib.ListN.{length};
+ghost use Rattle.numbers.specs.Words.{zeros};
+ghost use Rattle.numbers.specs.Result.{ok};
+ghost use Rattle.schema.specs.Defs.{Schema, indexEntries};
+ghost use Rattle.schema.specs.Psch.{schemaOf};
+ghost use Rattle.layout.specs.Build.{sheetOk};
+ghost use Rattle.area.specs.Posts.{Safe};
+ghost use Rattle.pso_write.specs.Rounds.{Roomy, Rooted};
+ghost use Rattle.pso_write.specs.Merge.{refusalOf, endedAt, soughtAt, jobOf, takenAt, roomedAt, Judges, Takes, Opens};
+
+// What is refused before the layout; or what it runs with: the round, the root's place and name.
+pub enum Opening {
+    Refused(u32),
+    Go(Round, usize, u32),
+}
+
+// The rooms of the work area, for a root at a place; 12 where it is too short.
+fn roomed(work: usize, entries: usize, place: usize, name: u32) -> Opening
+    ensures { λ r. ⌜ r ≡ roomedAt work entries place name ⌝ }
+{
+    if work < 65536 {
+        return Opening::Refused(12);
+    }
+    if (work - 65536) / 8 < entries {
+        return Opening::Refused(12);
+    }
+    let mut cap = (work - 65536 - 8 * entries) / 4;
+    if 4194304 < cap {
+        cap = 4194304;
+    }
+    let round = Round {
+        entries,
+        cap,
+        skip: 0,
+    };
+    Opening::Go(round, place, name)
+}
+
+// The root's definition: 7; then 12.
+fn rooted(sheet: &[u8], schema: &[u8], work: usize, entries: usize) -> Opening
+    ensures { λ r. ⌜ ((S : Schema) → schemaOf (now (schema .entry)) ≡ ok S → indexEntries S ≡ entries → sheetOk (now (sheet .entry)) ≡ ok tt
+        → Opens (now (sheet .entry)) (now (schema .entry)) work r) ⌝ }
+{
+    let root = read_row(sheet, 0);
+    let name = root.a;
+    match find_structure(schema, name) {
+        Found::Nothing => Opening::Refused(7),
+        Found::At(place) => roomed(work, entries, place, name),
+    }
+}
+
+// The schema: 4, 5, 6; then the root.
+fn schemed(sheet: &[u8], schema: &[u8], work: usize) -> Opening
+    ensures { λ r. ⌜ (sheetOk (now (sheet .entry)) ≡ ok tt → Opens (now (sheet .entry)) (now (schema .entry)) work r) ⌝ }
+{
+    match check_schema(schema) {
+        Checked::Refused(k) => Opening::Refused(k),
+        Checked::Sound(entries) => rooted(sheet, schema, work, entries),
+    }
+}
+
+// What is judged before the layout, for a work area of `work` bytes: the sheet, 1, 2, 3; the schema, the root's definition, the work area.
+pub fn opened(sheet: &[u8], schema: &[u8], work: usize) -> Opening
+    ensures { λ r. ⌜ Opens (now (sheet .entry)) (now (schema .entry)) work r ⌝ }
+{
+    match check_sheet(sheet) {
+        Sheet::Broken => Opening::Refused(1),
+        Sheet::Text => Opening::Refused(2),
+        Sheet::Root => Opening::Refused(3),
+        Sheet::Good => schemed(sheet, schema, work),
+    }
+}
+
+// A refusal.
+pub fn refusal(k: u32) -> Stage
+    ensures { λ r. ⌜ r ≡ refusalOf k ⌝ }
+{
+    let round = Round {
+        entries: 0,
+        cap: 0,
+        skip: 0,
+    };
+    let p = Progress {
+        blocks: 0,
+        rows: 0,
+        structs: 0,
+        enums: 0,
+        end: 0,
+        top: 0,
+        charge: 0,
+        seen: 0,
+        next: 0,
+    };
+    let job = Job {
+        good: false,
+        value: k,
+        place: 0,
+        name: 0,
+        round,
+        p,
+    };
+    Stage {
+        at: 0,
+        last: true,
+        length: 0,
+        base: 0,
+        count: 0,
+        row: 0,
+        job,
+    }
+}
+
+// The row is looked for from record k on.
+pub fn seek(room: usize, st: Stage, k: usize) -> Stage
+    ensures { λ r. ⌜ r ≡ soughtAt room st k ⌝ }
+{
+    let mut q = st;
+    if k < st.base {
+        q.at = k;
+        return q;
+    }
+    if st.count == room {
+        return refusal(14);
+    }
+    q.at = st.count;
+    q
+}
+
+// What a round gave.
+fn job_of(r: Ran, round: Round, place: usize, name: u32) -> Job
+    ensures { λ j. ⌜ j ≡ jobOf r round place name ⌝ }
+{
+    match r {
+        Ran::Done(value, p) => Job {
+            good: true,
+            value,
+            place,
+            name,
+            round,
+            p,
+        },
+        Ran::Refused(value, p) => Job {
+            good: false,
+            value,
+            place,
+            name,
+            round,
+            p,
+        },
+    }
+}
+
+// All rows are merged: the layout's own answer; 13 where the file is too long.
+pub fn judged(schema: &[u8], work: &[u8], size: usize, st: Stage) -> Stage
+    requires { ⌜ Safe (st .job .round) (length (now work)) (st .job .p) ⌝ }
+    ensures { λ r. ⌜ Judges (now (schema .entry)) size st (now (work .entry)) r ⌝ }
+{
+    let j = st.job;
+    if !j.good {
+        return refusal(j.value);
+    }
+    let n = file_length(schema, work, j.round, j.p);
+    if 16777216 < n {
+        return refusal(13);
+    }
+    if size < n {
+        return refusal(13);
+    }
+    let mut q = st;
+    q.last = true;
+    q.length = n;
+    q.at = st.count;
+    q
+}
+
+// Runs a round, whose rows are to be merged behind `count` records.
+pub fn take_round(
+    sheet: &[u8],
+    schema: &[u8],
+    work: &mut [u8],
+    size: usize,
+    room: usize,
+    round: Round,
+    place: usize,
+    name: u32,
+    count: usize,
+) -> Stage
+    requires { ⌜ Roomy round (length (now work)) × (now work ≡ zeros (length (now work))) × Rooted (now schema) round place name ⌝ }
+    ensures { λ r. ⌜ Takes (now (sheet .entry)) (now (schema .entry)) size room round place name count r (now (work .exit)) ⌝ }
+{
+    let r = run_round(sheet, schema, work, round, place, name);
+    let j = job_of(r, round, place, name);
+    let st = Stage {
+        at: 0,
+        last: false,
+        length: 0,
+        base: count,
+        count,
+        row: 0,
+        job: j,
+    };
+    if j.p.rows == 0 {
+        return judged(schema, work, size, st);
+    }
+    seek(room, st, 0)
+}
