@@ -1,8 +1,10 @@
-/* Sandvurek: reading PSO files.
+/* Sandvurek: building and reading PSO files.
  *
- * A slice is passed as a pointer and a length in bytes. The pointer is not null, also where the length is 0, and the
- * bytes are readable for the whole call. No function writes to the file or keeps the pointer. Every function takes any
- * bytes; what each answers is proved equal to its definition in crates/sandvurek/specs/Exports.antt. */
+ * A slice is passed as a pointer and a length: of bytes, or of records for the remarks. The pointer is not null, also
+ * where the length is 0, is aligned for what it points to, and holds for the whole call; no function keeps it. Behind
+ * `const` nothing is written. What is lent to be written (work, out, remarks) overlaps nothing else that is passed, and
+ * is initialised. Every function takes any bytes; what each answers is proved equal to its definition in
+ * crates/sandvurek/specs/Exports.antt. */
 #ifndef SANDVUREK_H
 #define SANDVUREK_H
 
@@ -12,6 +14,63 @@
 #ifdef __cplusplus
 extern "C" {
 #endif
+
+/* What building gives. code 0: length is the file's, remarks the number of remarks. Else code is the refusal's number
+ * and the rest is 0:
+ *    1  the sheet breaks its layout
+ *    2  a text byte is above 127
+ *    3  the root is no Struct
+ *    4  a section's length is below 8 or runs past the end
+ *    5  a head, index, definition or member lies outside its PSCH section
+ *    6  a definition's top byte is neither 0 nor 1
+ *    7  the root type has no definition
+ *    8  a structure would start at depth 33
+ *    9  the charge would pass its cap
+ *   10  an item's block number would be above 4,095, or its start above 0xFFFFF
+ *   11  a text that would have to be read as a floating-point number
+ *   12  work is shorter than 65,536 + 8 x i, i being the index entries of all PSCH sections
+ *   13  the file is longer than the output or than 16,777,216
+ *   14  one more distinct remark than records
+ * in the order 1, 2, 3; sections in file order (4, 5, 6); 7; 12; then 8, 9, 10, 11, 14 as first met in writing order;
+ * last 13. */
+typedef struct {
+    uint32_t code;
+    size_t length;
+    size_t remarks;
+} sandvurek_outcome;
+
+/* A remark: its kind, the names of the structure and the member, and a detail (in brackets; else 0). Kinds:
+ *    1  the member does not fit (the structure's size)
+ *    2  wrong value (what was wanted: 1 boolean, 2 integer, 3 float, 4 vector2, 5 vector3, 6 vector4, 7 string or
+ *       name, 8 enum member, 9 flag set, 10 structure, 11 array, 12 map)
+ *    3  string subtype (the subtype)
+ *    4  no structure definition (its name)
+ *    5  no ARRAYINFO
+ *    6  map subtype (the subtype)
+ *    7  no pair definition (its name)
+ *    8  no element definition (its name)
+ *    9  an element is no structure
+ *   10  strings of length zero
+ *   11  string array subtype (the subtype)
+ *   12  element type (the type byte)
+ *   13  member type (the type byte) */
+typedef struct {
+    uint32_t kind;
+    uint32_t structure;
+    uint32_t member;
+    uint32_t detail;
+} sandvurek_remark;
+
+/* Builds a pack from a value sheet and a schema file. Where code is 0 the file stands at the front of out, the rest of
+ * it untouched, and the remarks, each once, at the front of their list, the rest of it zero. A refusal leaves out
+ * untouched and sets all remarks to zero. work is zero after every call. What stood in work and in the remarks before
+ * does not matter. remarks_length counts records. The cap of refusal 9 is the smaller of 4,194,304 and
+ * (work_length - 65,536 - 8 x i) / 4, without the remainder. */
+sandvurek_outcome sandvurek_build(const uint8_t *sheet, size_t sheet_length,
+                                  const uint8_t *schema, size_t schema_length,
+                                  uint8_t *work, size_t work_length,
+                                  uint8_t *out, size_t out_length,
+                                  sandvurek_remark *remarks, size_t remarks_length);
 
 /* What a file is. code 0: root is the block number of the root, data_at and data_length say where the data section
  * stands in the file (the last PSIN section, its head included), blocks is the number of blocks. Else code is the

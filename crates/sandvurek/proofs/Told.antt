@@ -1,5 +1,6 @@
--- The reader's answers as the numbers that go out. Assumes nothing.
+-- The packer's and the reader's answers as the numbers that go out. Assumes nothing.
 use mathlib.Core.Path.{_≡_, refl, sym, ap, _∙_}
+use mathlib.Core.List.{List}
 use Prim.Native.Nat.{ℕ}
 use Rattle.numbers.specs.Words.{Bytes}
 use Rattle.numbers.specs.Result.{Result, ok, refused}
@@ -11,11 +12,26 @@ use Rattle.pso.specs.declared.parse.Parsed as P
 use Rattle.pso.specs.declared.parse.Parsed.the-variants as W
 use Rattle.pso.specs.declared.blocks.Row as B
 use Rattle.pso.specs.declared.blocks.Row.the-variants as Y
-use Rattle.sandvurek.specs.Exports.{readingIs, readingOf, blockIs, blockOf}
+use Rattle.layout.specs.State.{Remark}
+use Rattle.layout.specs.Build.{After}
+use Rattle.pso_write.specs.Answers.{answerOf, leaves}
+use Rattle.pso_write.specs.declared.Built.{Built}
+use Rattle.sandvurek.specs.Exports.{outcomeIs, outcomeOf, BuildIs, readingIs, readingOf, blockIs, blockOf}
+use Rattle.sandvurek.specs.declared.Outcome.{Outcome}
 use Rattle.sandvurek.specs.declared.Reading.{Reading}
 use Rattle.sandvurek.specs.declared.Block.{Block}
 
--- the numbers of an answer
+-- the packer's answer as numbers, with what it leaves
+pub build-told : (a : After) (r : Built) (n : Outcome) (out : Bytes) (list : List Remark) (area : Bytes) → n ≡ outcomeIs (answerOf r) → leaves r out list area ≡ a → BuildIs a n out list area
+build-told a r n out list area t e =
+    record {
+      answer = t ∙ ap outcomeOf e;
+      output = ap (λ (k : After). k .output) e;
+      remarks = ap (λ (k : After). k .remarks) e;
+      work = ap (λ (k : After). k .work) e;
+    }
+
+-- the numbers of the reader's answer
 abbrev shows : P.Parsed → Reading
 shows (W.Pso root place len blocks) = record { code = 0; root = root; data_at = place; data_length = len; blocks = blocks }
 shows (W.Refused n) = record { code = n; root = 0; data_at = 0; data_length = 0; blocks = 0 }

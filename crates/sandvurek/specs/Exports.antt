@@ -1,6 +1,7 @@
 -- What each exported function answers.
 use Prim.Native.Nat.{ℕ, _+_, _*_}
 use mathlib.Core.Path.{_≡_}
+use mathlib.Core.List.{List}
 use mathlib.Core.Option.{Option, none, some}
 use lib.ListN.{length}
 use Rattle.numbers.specs.Words.{Bytes}
@@ -16,6 +17,7 @@ use Rattle.pso.specs.Blocks.{numbered, blocksOf}
 use Rattle.pso.specs.Answers.{dataAt, structureAt, enumerationAt}
 use Rattle.pso.specs.declared.definitions.Definition as P
 use Rattle.pso.specs.declared.definitions.Definition.the-variants.{Found, Nothing}
+use Rattle.layout.specs.State.{Remark}
 use Rattle.layout.specs.Members.{nth}
 use Rattle.layout.specs.Build.{Answer, success, refusal, After}
 use Rattle.sandvurek.specs.declared.Outcome.{Outcome}
@@ -33,6 +35,13 @@ outcomeIs (refusal n) = record { code = n; length = 0; remarks = 0 }
 -- .. of a call
 abbrev pub outcomeOf : After → Outcome
 outcomeOf a = outcomeIs (a .answer)
+
+-- the answer, the output, the remark list and the work area after a call are those of the definition
+pub record BuildIs (a : After) (r : Outcome) (out : Bytes) (list : List Remark) (area : Bytes) : Type 0 where
+  pub answer : r ≡ outcomeOf a
+  pub output : out ≡ a .output
+  pub remarks : list ≡ a .remarks
+  pub work : area ≡ a .work
 
 -- a file's root number, its data section's place and length, the number of its blocks; or the refusal's number
 abbrev pub readingIs : Bytes → Result R.Pso → Reading

@@ -1,4 +1,5 @@
 // The library's functions for C and Rust. A slice passes as pointer, then length; every call takes any bytes.
+use layout::Remark;
 use pso::blocks::Row;
 use pso::blocks::block;
 use pso::definitions::Definition as Found;
@@ -6,14 +7,19 @@ use pso::definitions::enumeration;
 use pso::definitions::structure;
 use pso::parse::Parsed;
 use pso::parse::parse_pso;
+use pso_write::Built;
+use pso_write::build_pso;
 use schema::members::read_entry;
 use schema::members::read_member;
 ghost use mathlib.Core.Path.{_≡_};
+ghost use lib.ListN.{length};
 ghost use Rattle.numbers.specs.Result.{ok};
 ghost use Rattle.schema.specs.Defs.{leading};
 ghost use Rattle.pso.specs.Reader.{Pso, parsePso};
 ghost use Rattle.pso.specs.Blocks.{numbered};
-ghost use Rattle.sandvurek.specs.Exports.{readingOf, blockIs, blockOf, definitionIs, structureOf, enumOf, memberOf, entryOf, StructIs, EnumIs};
+ghost use Rattle.layout.specs.Build.{buildPso};
+ghost use Rattle.pso_write.specs.Answers.{answerOf};
+ghost use Rattle.sandvurek.specs.Exports.{outcomeIs, BuildIs, readingOf, blockIs, blockOf, definitionIs, structureOf, enumOf, memberOf, entryOf, StructIs, EnumIs};
 
 // What building gives: code 0, the file's length and the number of remarks; or the refusal's number, and zeros.
 #[repr(C)]
@@ -21,6 +27,40 @@ pub struct Outcome {
     pub code: u32,
     pub length: usize,
     pub remarks: usize,
+}
+
+// The packer's answer as numbers.
+fn outcome_of(b: Built) -> Outcome
+    ensures { λ r. ⌜ r ≡ outcomeIs (answerOf b) ⌝ }
+{
+    match b {
+        Built::File(len, count) => Outcome {
+            code: 0,
+            length: len,
+            remarks: count,
+        },
+        Built::Refused(number) => Outcome {
+            code: number,
+            length: 0,
+            remarks: 0,
+        },
+    }
+}
+
+// Builds a pack from a sheet and a schema file. The file goes to the front of the output, the remarks to the front of their list.
+#[no_mangle]
+pub extern "C" fn sandvurek_build(
+    sheet: &[u8],
+    schema: &[u8],
+    work: &mut [u8],
+    out: &mut [u8],
+    remarks: &mut [Remark],
+) -> Outcome
+    ensures { λ r. ⌜ BuildIs (buildPso (now (sheet .entry)) (now (schema .entry)) (length (now (work .entry))) (now (out .entry)) (length (now (remarks .entry))))
+        r (now (out .exit)) (now (remarks .exit)) (now (work .exit)) ⌝ }
+{
+    let b = build_pso(sheet, schema, work, out, remarks);
+    outcome_of(b)
 }
 
 // What the reader gives: code 0, the root's block number, where the data section stands in the file and its length, the
