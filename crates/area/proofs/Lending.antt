@@ -32,10 +32,10 @@ module _ (S : Schema) (R : Round) (n : ℕ) where
   buffer {s} {p} {w} σ buf at k r h e l =
       let m : length (σ ++ buf) ≡ length σ + length buf = length-append σ buf in
       let st : Stands w (stackAt R) (σ ++ buf) =
-          rw (r .work)
-          (flat.holds
-          ((32768, rowsOf (s .core .blocks)) ∷ (16384, rowsBytes (kept (R .skip) (s .events) .rows)) ∷ (16384, []) ∷ (4 * R .entries, words (s .core .structs)) ∷ (4 * R .entries, words (s .core .enums)) ∷ (R .cap, encode (s .core .items)) ∷ [])
-          [] (n - stackAt R) (σ ++ buf) (stackAt R) (omega (arith, r .top)) (omega arith)) in
+      rw (r .work)
+      (flat.holds
+      ((32768, rowsOf (s .core .blocks)) ∷ (16384, rowsBytes (kept (R .skip) (s .events) .rows)) ∷ (16384, []) ∷ (4 * R .entries, words (s .core .structs)) ∷ (4 * R .entries, words (s .core .enums)) ∷ (R .cap, encode (s .core .items)) ∷ [])
+      [] (n - stackAt R) (σ ++ buf) (stackAt R) (omega (arith, r .top)) (omega arith)) in
       rw (← l) (cut-at w buf at (next w σ buf (stackAt R) at (length σ) refl (omega (arith, r .top)) st))
 
   -- it was lent to a function that makes g of it, and came back

@@ -1,0 +1,1 @@
+-- Laws of members and runs.
