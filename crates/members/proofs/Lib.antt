@@ -1,2 +1,3 @@
 -- Laws of members and runs.
 pub mod Filling
+pub mod Slotting

@@ -30,3 +30,63 @@ counted w a b c at x n h e f g =
     let t : at + 10 ≡ (at + 8) + length (bytesOf 2 n) = omega arith in
     g ∙ ap (λ (y : Bytes). over y (at + 10) (bytesOf 2 n)) f ∙ ap (λ (i : ℕ). over (over a (at + 8) (bytesOf 2 n)) i (bytesOf 2 n)) t
     ∙ over-seq a (at + 8) (bytesOf 2 n) (bytesOf 2 n) (omega arith) ∙ ap (λ (y : Bytes). over y (at + 8) (bytesOf 2 n ++ bytesOf 2 n)) e
+
+-- the charge paid
+pub rep-paid : (S : Schema) (R : Round) (n : ℕ) (s : State) (σ : Bytes) (p : Progress) (w : Bytes) (k : ℕ) → Rep S R n s σ p w → Rep S R n (withCharge (s .charge + k) s) σ (withPaid p (p .charge + k)) w
+rep-paid S R n s σ p w k r = record {
+  work = r .work;
+  blocks = r .blocks;
+  rows = r .rows;
+  structs = r .structs;
+  enums = r .enums;
+  end = r .end;
+  top = r .top;
+  charge = ap (λ (x : ℕ). x + k) (r .charge);
+  seen = r .seen;
+  next = r .next;
+  tiny = r .tiny;
+  small = r .small;
+  structNames = r .structNames;
+  enumNames = r .enumNames;
+  known = r .known;
+  entries = r .entries;
+}
+
+module _ (R : Round) (n : ℕ) (p : Progress) where
+  -- the numbers with the charge paid are in order
+  pub safe-paid : (k : ℕ) → Safe R n p → p .charge + k ≤ R .cap → Safe R n (withPaid p (p .charge + k))
+  safe-paid k h l = record {
+    small = h .small;
+    room = h .room;
+    from = h .from;
+    items = omega (arith, h .items);
+    low = h .low;
+    stack = omega (arith, h .stack);
+    within = l;
+    blocks = h .blocks;
+    rows = h .rows;
+    structs = h .structs;
+    enums = h .enums;
+    next = h .next;
+    seen = omega (arith, h .seen);
+  }
+
+  -- .. and with a text laid, whose charge is paid
+  pub laid-went : (len : ℕ) (q : Progress) → Safe R n p → p .charge + (16 + len) ≤ R .cap → Larger (withPaid p (p .charge + (16 + len))) len (p .top) q → Went R n p 0 (Done q)
+  laid-went len q h l g =
+      (record {
+        small = h .small;
+        room = h .room;
+        from = omega (arith, h .from, g .end);
+        items = omega (arith, h .items, g .end, g .charge);
+        low = omega (arith, h .low, g .top);
+        stack = omega (arith, h .stack, g .top, g .charge);
+        within = omega (arith, g .charge);
+        blocks = g .blocks;
+        rows = omega (arith, h .rows, g .rows);
+        structs = omega (arith, h .structs, g .structs);
+        enums = omega (arith, h .enums, g .enums);
+        next = omega (arith, h .next, g .next, g .seen);
+        seen = omega (arith, h .seen, g .seen, g .charge);
+      },
+      record { more = omega (arith, g .end); paid = omega (arith, g .end, g .charge); top = omega (arith, g .top); met = omega (arith, g .seen, g .charge) })

@@ -104,7 +104,7 @@ returns-2 c = let s = c .before .before .before .before .before .before .before 
     let a = s .args in
     let put = c .before .before .before .before .before .before .before .before in
     cell-stored (a .round) (length (a .work .now)) (a .p) (a .work .now) (a .sheet .now) (a .schema .now) (a .d) (a .m) (valueIs (a .v)) (a .need) (cellBytes (a .sheet .now) (a .schema .now) (a .cell)) (a .known) (a .name) (c .before .before .before .before .before .before .before .before .before .before .before .before .value-row .result) (c .before .before .before .before .before .before .before .before .before .before .before .before .value-row .ensures) (sym (c .before .before .before .before .before .before .before .before .before .before .before .before .before .before .fits2 .ensures) ∙ not-false (c .before .before .before .before .before .before .before .before .before .before .before .before .before .before .fits2 .result) (c .before .before .before .before .before .before .before .before .before .before .before .before .before .if1 .left)) (put .put-cell .last .1 .1 .0)
-    (c .before .before .used .result) (c .before .before .used .last .0) (s .pre .0 .0) (s .pre .1 .0) refl (rw (← c .before .before .before .before .enum-told .given) (put .put-cell .ensures)) (c .before .before .before .before .before .before .before .work2 .given) (c .before .before .used .ensures)
+    (c .before .before .used .result) (c .before .before .used .last .0) (s .pre .0 .0) (s .pre .1 .0) refl (rw (← c .before .before .before .before .enum-told .given .1) (put .put-cell .ensures)) (c .before .before .before .before .before .before .before .work2 .given) (c .before .before .used .ensures)
 
 -- src/member.rt:83:1
 same-length-3 : tie.Need-same-length-3
@@ -116,7 +116,7 @@ returns-3 c = let s = c .before .before .before .before .before .before .before 
     let a = s .args in
     let put = c .before .before .before .before .before .before .before .before in
     cell-wrong (a .round) (length (a .work .now)) (a .p) (a .work .now) (a .sheet .now) (a .schema .now) (a .d) (a .m) (valueIs (a .v)) (a .need) (cellBytes (a .sheet .now) (a .schema .now) (a .cell)) (a .known) (a .name) (c .before .before .before .before .before .before .before .before .before .before .before .before .value-row .result) (c .before .before .before .before .before .before .before .before .before .before .before .before .value-row .ensures) (sym (c .before .before .before .before .before .before .before .before .before .before .before .before .before .before .fits2 .ensures) ∙ not-false (c .before .before .before .before .before .before .before .before .before .before .before .before .before .before .fits2 .result) (c .before .before .before .before .before .before .before .before .before .before .before .before .before .if1 .left)) (put .put-cell .last .1 .1 .0)
-    (c .before .before .wrong .result) (c .before .before .wrong .last .0) refl (rw (← c .before .before .before .before .enum-told2 .given) (put .put-cell .ensures)) (c .before .before .wrong .ensures (a .schema .now))
+    (c .before .before .wrong .result) (c .before .before .wrong .last .0) refl (rw (← c .before .before .before .before .enum-told2 .given .1) (put .put-cell .ensures)) (c .before .before .wrong .ensures (a .schema .now))
 
 -- src/member.rt:83:1
 same-length-4 : tie.Need-same-length-4
@@ -128,7 +128,7 @@ returns-4 c = let s = c .before .before .before .before .before .before .before 
     let a = s .args in
     let put = c .before .before .before .before in
     cell-refused (a .round) (length (a .work .now)) (a .p) (a .work .now) (a .sheet .now) (a .schema .now) (a .d) (a .m) (valueIs (a .v)) (a .need) (cellBytes (a .sheet .now) (a .schema .now) (a .cell)) (a .known) (a .name) (c .before .before .before .before .before .before .before .before .value-row .result) (c .before .before .before .before .before .before .before .before .value-row .ensures) (sym (c .before .before .before .before .before .before .before .before .before .before .fits2 .ensures) ∙ not-false (c .before .before .before .before .before .before .before .before .before .before .fits2 .result) (c .before .before .before .before .before .before .before .before .before .if1 .left)) (put .put-cell .last .1 .1 .0)
-    (s .pre .0 .0) (rw (← c .enum-told3 .given) (put .put-cell .ensures))
+    (s .pre .0 .0) (rw (← c .enum-told3 .given .1) (put .put-cell .ensures))
 
 pub write-cell-spec : {M : Type 1} → statement M
 write-cell-spec =

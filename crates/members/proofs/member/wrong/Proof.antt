@@ -33,7 +33,7 @@ returns : tie.Need-returns
 returns c = λ F.
     let s = c .before .before .before in
     let a = s .args in
-    rw (c .enum-told .given) (wrong-missing (a .round) (length (a .work .now)) (a .p) (a .work .now) anySchema (a .d .size) (defOf F (a .d)) (memberOf (a .m)) (s .pre .0))
+    rw (c .enum-told .given .1) (wrong-missing (a .round) (length (a .work .now)) (a .p) (a .work .now) anySchema (a .d .size) (defOf F (a .d)) (memberOf (a .m)) (s .pre .0))
 
 -- src/member.rt:57:1
 same-length : tie.Need-same-length
