@@ -1,3 +1,6 @@
 -- Laws of members and runs.
+pub mod Kinding
+pub mod Celling
+pub mod Looking
 pub mod Filling
 pub mod Slotting
