@@ -4,3 +4,4 @@ pub mod Celling
 pub mod Looking
 pub mod Filling
 pub mod Slotting
+pub mod Choosing
