@@ -1,0 +1,7 @@
+-- Laws of members and runs.
+pub mod Kinding
+pub mod Celling
+pub mod Looking
+pub mod Filling
+pub mod Slotting
+pub mod Choosing
