@@ -1,1 +1,2 @@
 -- Laws of members and runs.
+pub mod Loops

@@ -1,0 +1,333 @@
+-- Runs, element by element, whatever the elements are. No line here names a place of the code. Assumes nothing.
+use mathlib.Core.Path.{_≡_, refl, sym, ap, subst, _∙_}
+use mathlib.Core.Bool.{Bool, true, false, cond}
+use mathlib.Core.List.{List, [], _∷_, _++_, append-assoc, append-nil}
+use mathlib.Core.Option.{Option, none, some}
+use Prim.Native.Nat.{ℕ, zero, suc, _+_, _-_, _*_, _≤_, _<_}
+use native.Mathlib.Omega.{arith}
+use borrow.Author.Tests.{leb-true}
+use native.Mathlib.Nat.{mul-le-mul-left}
+use lib.Dec.{leb}
+use lib.ListN.{length, drop, length-append, drop-of-length-le}
+use Rattle.numbers.specs.Words.{Bytes, over, zeros}
+use Rattle.numbers.specs.Result.{mapOption}
+use Rattle.value.specs.Rows.{rowsFrom}
+use Rattle.schema.specs.Defs.{Schema}
+use Rattle.layout.specs.State.{Remark, State, Env, Out, done, stop, M, after, bind, ret, optM, pay, withCharge}
+use Rattle.layout.specs.Runs.{Run, elements, run}
+use Rattle.area.specs.declared.Round.{Round}
+use Rattle.area.specs.declared.Progress.{Progress}
+use Rattle.area.specs.Area.{stackAt, Rep, withTop, withPaid, envOf}
+use Rattle.area.specs.Posts.{Safe, Grown, Stopped, Meets}
+use Rattle.area.proofs.Reps.{rep-pop}
+use Rattle.members.specs.declared.Wrote.{Wrote}
+use Rattle.members.specs.declared.Wrote.the-variants.{Done, Refused}
+use Rattle.members.specs.declared.Ran.{Ran}
+use Rattle.members.specs.declared.Ran.the-variants as Rn
+use Rattle.members.specs.Posts.{paidIs, ranIs, runBytes, Grew, Yields, Fell}
+
+-- what the elements so far give stands before what the others give
+abbrev pub joinOut : Bytes → Out (Option Bytes) → Out (Option Bytes)
+joinOut b (done o t) = done (mapOption (λ (x : Bytes). b ++ x) o) t
+joinOut b (stop k es) = stop k es
+
+join-nil : (o : Out (Option Bytes)) → o ≡ joinOut [] o
+join-nil (done none t) = refl
+join-nil (done (some b) t) = refl
+join-nil (stop k es) = refl
+
+join-join : (a b : Bytes) (o : Out (Option Bytes)) → joinOut a (joinOut b o) ≡ joinOut (a ++ b) o
+join-join a b (done none t) = refl
+join-join a b (done (some x) t) = ap (λ (y : Bytes). done (some y) t) (sym (append-assoc a b x))
+join-join a b (stop k es) = refl
+
+-- x is the i-th of a list, from 0
+abbrev pub Ith : {X : Type 0} → X → ℕ → List X → Type 0
+Ith x i xs = drop i xs ≡ x ∷ drop (i + 1) xs
+
+module _ {X : Type 0} (f : X → M (Option Bytes)) where
+  joined : (b : Bytes) (o : Out (Option Bytes)) → after o (λ p. optM p (ret none) λ bs. ret (some (b ++ bs))) ≡ joinOut b o
+  unfolding after optM ret
+  joined b (done none t) = refl
+  joined b (done (some x) t) = refl
+  joined b (stop k es) = refl
+
+  elements-some : (x : X) (xs : List X) (b : Bytes) (s t : State) → f x s ≡ done (some b) t → elements f (x ∷ xs) s ≡ joinOut b (elements f xs t)
+  unfolding elements bind after optM
+  elements-some x xs b s t e = rw e (joined b (elements f xs t))
+
+  elements-none : (x : X) (xs : List X) (s t : State) → f x s ≡ done none t → elements f (x ∷ xs) s ≡ done none t
+  unfolding elements bind after optM ret
+  elements-none x xs s t e = rw e refl
+
+  elements-stop : (x : X) (xs : List X) (s : State) (k : ℕ) (es : List Remark) → f x s ≡ stop k es → elements f (x ∷ xs) s ≡ stop k es
+  unfolding elements bind after
+  elements-stop x xs s k es e = rw e refl
+
+-- i of the elements stand on the stack σ
+pub record Along (S : Schema) (R : Round) (n : ℕ) (σ : Bytes) {X : Type 0} (f : X → M (Option Bytes)) (xs : List X) (s : State) (p : Progress) (w : Bytes) (i : ℕ) : Type 0 where
+  pub state : State
+  pub bytes : Bytes
+  pub rep : Rep S R n state (σ ++ bytes) p w
+  pub rest : elements f xs s ≡ joinOut bytes (elements f (drop i xs) state)
+
+module _ {S : Schema} {R : Round} {n : ℕ} {σ : Bytes} {X : Type 0} {f : X → M (Option Bytes)} {xs : List X} {s : State} {p : Progress} {w : Bytes} where
+  pub along-begin : Rep S R n s σ p w → Along S R n σ f xs s p w 0
+  along-begin r = record { state = s; bytes = []; rep = rw (append-nil σ) r; rest = join-nil (elements f xs s) }
+
+  pub along-turn : {i : ℕ} {x : X} {b : Bytes} {t : State} {q : Progress} {v : Bytes} (a : Along S R n σ f xs s p w i) → Ith x i xs → f x (a .state) ≡ done (some b) t
+      → Rep S R n t (σ ++ (a .bytes ++ b)) q v → Along S R n σ f xs s q v (i + 1)
+  along-turn {i} {x} {b} {t} a e g r =
+      record {
+        state = t;
+        bytes = a .bytes ++ b;
+        rep = r;
+        rest =
+            a .rest ∙ ap (λ (l : List X). joinOut (a .bytes) (elements f l (a .state))) e
+            ∙ ap (joinOut (a .bytes)) (elements-some f x (drop (i + 1) xs) b (a .state) t g) ∙ join-join (a .bytes) b (elements f (drop (i + 1) xs) t);
+      }
+
+  pub along-end : {i : ℕ} (a : Along S R n σ f xs s p w i) → length xs ≤ i → elements f xs s ≡ done (some (a .bytes)) (a .state)
+  unfolding elements ret
+  along-end {i} a h =
+      a .rest ∙ ap (λ (l : List X). joinOut (a .bytes) (elements f l (a .state))) (drop-of-length-le xs h)
+      ∙ ap (λ (b : Bytes). done (some b) (a .state)) (append-nil (a .bytes))
+
+  pub along-drop : {i : ℕ} {x : X} {t : State} (a : Along S R n σ f xs s p w i) → Ith x i xs → f x (a .state) ≡ done none t → elements f xs s ≡ done none t
+  along-drop {i} {x} {t} a e g =
+      a .rest ∙ ap (λ (l : List X). joinOut (a .bytes) (elements f l (a .state))) e
+      ∙ ap (joinOut (a .bytes)) (elements-none f x (drop (i + 1) xs) (a .state) t g)
+
+  pub along-stop : {i : ℕ} {x : X} {k : ℕ} {es : List Remark} (a : Along S R n σ f xs s p w i) → Ith x i xs → f x (a .state) ≡ stop k es → elements f xs s ≡ stop k es
+  along-stop {i} {x} {k} {es} a e g =
+      a .rest ∙ ap (λ (l : List X). joinOut (a .bytes) (elements f l (a .state))) e
+      ∙ ap (joinOut (a .bytes)) (elements-stop f x (drop (i + 1) xs) (a .state) k es g)
+
+-- the rows of a run
+
+pub length-rowsFrom : (r n : ℕ) → length (rowsFrom r n) ≡ n
+unfolding rowsFrom
+length-rowsFrom r zero = refl
+length-rowsFrom r (suc n) = ap suc (length-rowsFrom (suc r) n)
+
+pub row-ith : (r n i : ℕ) → i < n → Ith (r + i) i (rowsFrom r n)
+unfolding rowsFrom
+row-ith r zero i h = absurd (omega (arith, h))
+row-ith r (suc n) zero h = let e : r ≡ r + 0 = omega arith in ap (λ (x : ℕ). x ∷ rowsFrom (suc r) n) e
+row-ith r (suc n) (suc i) h =
+    let e : suc r + i ≡ r + suc i = omega arith in
+    let g : suc (i + 1) ≡ suc i + 1 = omega arith in
+    row-ith (suc r) n i (omega (arith, h)) ∙ ap (λ (x : ℕ). x ∷ drop (i + 1) (rowsFrom (suc r) n)) e
+    ∙ ap (λ (j : ℕ). (r + suc i) ∷ drop j (r ∷ rowsFrom (suc r) n)) g
+
+-- the charge is paid
+
+pub rep-paid : {S : Schema} {R : Round} {n : ℕ} {s : State} {σ : Bytes} {p : Progress} {w : Bytes} (c : ℕ) → Rep S R n s σ p w → Rep S R n (withCharge (s .charge + c) s) σ (withPaid p (p .charge + c)) w
+rep-paid {p = p} c r = record {
+  work = r .work;
+  blocks = r .blocks;
+  rows = r .rows;
+  structs = r .structs;
+  enums = r .enums;
+  end = r .end;
+  top = r .top;
+  charge = ap (λ (x : ℕ). x + c) (r .charge);
+  seen = r .seen;
+  next = r .next;
+  tiny = r .tiny;
+  small = r .small;
+  structNames = r .structNames;
+  enumNames = r .enumNames;
+  known = r .known;
+  entries = r .entries;
+}
+
+pub safe-paid : {R : Round} {n : ℕ} {p : Progress} (c : ℕ) → Safe R n p → p .charge + c ≤ R .cap → Safe R n (withPaid p (p .charge + c))
+safe-paid {p = p} c h l = record {
+  small = h .small;
+  room = h .room;
+  from = h .from;
+  items = omega (arith, h .items);
+  low = h .low;
+  stack = omega (arith, h .stack);
+  within = l;
+  blocks = h .blocks;
+  rows = h .rows;
+  structs = h .structs;
+  enums = h .enums;
+  next = h .next;
+  seen = omega (arith, h .seen);
+}
+
+abbrev progressOf : Wrote → Progress
+progressOf (Done q) = q
+progressOf (Refused k q) = q
+
+abbrev numberOf : Wrote → ℕ
+numberOf (Done q) = 0
+numberOf (Refused k q) = k
+
+abbrev isDone : Wrote → Type 0
+isDone (Done q) = ⊥
+isDone (Refused k q) = Unit {0}
+
+not-done : {k : ℕ} {q s : Progress} → Refused k q ≡ Done s → ⊥
+not-done e = subst isDone e tt
+
+-- what paying says: it was enough, or not
+pub paid-done : (R : Round) (p : Progress) (c : ℕ) (s : Progress) → paidIs R p c ≡ Done s → (leb (p .charge + c) (R .cap) ≡ true) × (withPaid p (p .charge + c) ≡ s)
+paid-done R p c s e = by-test (leb (p .charge + c) (R .cap)) e
+  where
+    by-test : (b : Bool) → cond b (Done (withPaid p (p .charge + c))) (Refused 9 p) ≡ Done s → (b ≡ true) × (withPaid p (p .charge + c) ≡ s)
+    by-test true g = (refl, ap progressOf g)
+    by-test false g = absurd (not-done g)
+
+pub paid-not : (R : Round) (p : Progress) (c k : ℕ) (q : Progress) → paidIs R p c ≡ Refused k q → (leb (p .charge + c) (R .cap) ≡ false) × (9 ≡ k) × (p ≡ q)
+paid-not R p c k q e = by-test (leb (p .charge + c) (R .cap)) e
+  where
+    by-test : (b : Bool) → cond b (Done (withPaid p (p .charge + c))) (Refused 9 p) ≡ Refused k q → (b ≡ false) × (9 ≡ k) × (p ≡ q)
+    by-test true g = absurd (not-done (sym g))
+    by-test false g = (refl, ap numberOf g, ap progressOf g)
+
+-- an element is there: its bytes stand on the stack τ
+pub record Made (S : Schema) (R : Round) (n : ℕ) (τ : Bytes) (o : Out (Option Bytes)) (q : Progress) (v : Bytes) : Type 0 where
+  pub state : State
+  pub bytes : Bytes
+  pub is : o ≡ done (some bytes) state
+  pub rep : Rep S R n state (τ ++ bytes) q v
+
+-- an element fails: the run is dropped
+pub record Fails (S : Schema) (R : Round) (n : ℕ) (τ : Bytes) (o : Out (Option Bytes)) (q : Progress) (v : Bytes) : Type 0 where
+  pub state : State
+  pub is : o ≡ done none state
+  pub rep : Rep S R n state τ q v
+
+-- an element is refused
+pub record Halts (S : Schema) (R : Round) (n : ℕ) (k : ℕ) (o : Out (Option Bytes)) (q : Progress) (v : Bytes) : Type 0 where
+  pub events : List Remark
+  pub is : o ≡ stop k events
+  pub stopped : Stopped S R n events q v
+
+-- what m elements of `stride` bytes cost
+abbrev pub runCost : ℕ → ℕ → ℕ
+runCost stride m = 16 + stride * m
+
+-- m elements xs are written from p and w on: i of them are, and the numbers and the area are q and v
+pub record Running (known : Schema → Type 0) (R : Round) (n : ℕ) (p : Progress) (w : Bytes) (stride m : ℕ) {X : Type 0} (f : Schema → X → M (Option Bytes)) (xs : List X) (q : Progress) (v : Bytes) (i : ℕ) : Type 0 where
+  pub enough : leb (p .charge + runCost stride m) (R .cap) ≡ true
+  pub safe : Safe R n q
+  pub grown : Grown (withPaid p (p .charge + runCost stride m)) 0 (stride * i) 0 q
+  pub along : (S : Schema) → known S → (s : State) (σ : Bytes) → Rep S R n s σ p w → Along S R n σ (f S) xs (withCharge (s .charge + runCost stride m) s) q v i
+
+module _ {X : Type 0} (E : Env) (stride block : ℕ) (f : X → M (Option Bytes)) (xs : List X) where
+  -- a run is its elements, where the charge is enough
+  abbrev named : Out (Option Bytes) → Out (Option Run)
+  named (done o t) = done (mapOption (λ (bs : Bytes). record { bytes = bs; block = block }) o) t
+  named (stop k es) = stop k es
+
+  named-is : (o : Out (Option Bytes)) → after o (λ o. ret (mapOption (λ bs. record { bytes = bs; block = block }) o)) ≡ named o
+  unfolding after ret
+  named-is (done o t) = refl
+  named-is (stop k es) = refl
+
+  run-enough : (m : ℕ) (s : State) → length xs ≡ m → leb (s .charge + runCost stride m) (E .chargeCap) ≡ true
+      → run E stride block f xs s ≡ named (elements f xs (withCharge (s .charge + runCost stride m) s))
+  unfolding run bind after pay
+  run-enough m s l e = rw (l, e) (named-is (elements f xs (withCharge (s .charge + runCost stride m) s)))
+
+  run-dear : (m : ℕ) (s : State) → length xs ≡ m → leb (s .charge + runCost stride m) (E .chargeCap) ≡ false → run E stride block f xs s ≡ stop 9 (s .events)
+  unfolding run bind after pay
+  run-dear m s l e = rw (l, e) refl
+
+module _ (known : Schema → Type 0) (R : Round) (n : ℕ) (p : Progress) (w : Bytes) (stride m : ℕ) {X : Type 0} (f : Schema → X → M (Option Bytes)) (xs : List X) where
+  -- before the first element
+  pub run-begin : (c : ℕ) (r : Wrote) (s : Progress) → Safe R n p → c ≡ runCost stride m → r ≡ paidIs R p c → r ≡ Done s → Running known R n p w stride m f xs s w 0
+  run-begin c r s h e g d =
+      let z = paid-done R p (runCost stride m) s (ap (paidIs R p) (sym e) ∙ sym g ∙ d) in
+      subst (λ (q : Progress). Running known R n p w stride m f xs q w 0) (z .1)
+      (record {
+        enough = z .0;
+        safe = safe-paid (runCost stride m) h (leb-true (p .charge + runCost stride m) (R .cap) (z .0));
+        grown = record { more = omega arith; paid = omega arith; top = omega arith; met = omega arith };
+        along = λ S k s σ r. along-begin (rep-paid (runCost stride m) r);
+      })
+
+  -- one element more
+  pub run-turn : {q q' : Progress} {v v' : Bytes} {i : ℕ} (x : X) → Running known R n p w stride m f xs q v i → Ith x i xs → Safe R n q' → Grown q 0 stride 0 q'
+      → ((S : Schema) → known S → (t : State) (τ : Bytes) → Rep S R n t τ q v → Made S R n τ (f S x t) q' v') → Running known R n p w stride m f xs q' v' (i + 1)
+  run-turn {q} {q'} {v} {v'} {i} x a e h g d =
+      let b = a .grown in
+      let j : stride * (i + 1) ≡ stride * i + stride = omega arith in
+      record {
+        enough = a .enough;
+        safe = h;
+        grown = record { more = omega (arith, b .more, g .more); paid = omega (arith, b .paid, g .paid); top = omega (arith, b .top, g .top, j); met = omega (arith, b .met, g .met) };
+        along =
+            λ S k s σ r.
+            let y = a .along S k s σ r in
+            let z = d S k (y .state) (σ ++ y .bytes) (y .rep) in
+            along-turn y e (z .is) (rw (← append-assoc) (z .rep));
+      }
+
+  module _ (T : Bytes) (block : ℕ) (notes : ℕ) (many : length xs ≡ m) where
+    abbrev Post : Ran → Bytes → Type 0
+    Post r v = Yields known R n p w notes (λ S. run (envOf T S R) stride block (f S) xs) r v
+
+    test : {b : Bool} (S : Schema) (s : State) (σ : Bytes) → Rep S R n s σ p w → leb (p .charge + runCost stride m) (R .cap) ≡ b → leb (s .charge + runCost stride m) (R .cap) ≡ b
+    test S s σ r e = ap (λ (c : ℕ). leb (c + runCost stride m) (R .cap)) (sym (r .charge)) ∙ e
+
+    -- all are written
+    pub run-kept : {q : Progress} {v : Bytes} {i : ℕ} → Running known R n p w stride m f xs q v i → i ≡ m → Post (Rn.Kept block q) v
+    run-kept {q} {v} {i} a e =
+        let b = a .grown in
+        record {
+          grew = (a .safe, omega (arith, b .top), record { more = b .more; paid = omega (arith, b .paid, b .top, ap (λ (j : ℕ). stride * j) e); top = omega (arith, b .top); met = omega (arith, b .met) });
+          says =
+              λ S k s σ r.
+              let y = a .along S k s σ r in
+              rw (run-enough (envOf T S R) stride block (f S) xs m s many (test S s σ r (a .enough)), along-end y (omega (arith, many, e))) (y .rep, refl);
+        }
+
+    -- an element fails, and those before it are taken off the stack
+    pub run-dropped : {q q' u : Progress} {v v' v'' : Bytes} {i : ℕ} (x : X) → Safe R n p → Running known R n p w stride m f xs q v i → Ith x i xs → Safe R n q' → Grown q 0 0 0 q'
+        → ((S : Schema) → known S → (t : State) (τ : Bytes) → Rep S R n t τ q v → Fails S R n τ (f S x t) q' v') → Fell q' (p .top) v' u v'' → Post (Rn.Dropped u) v''
+    run-dropped {q} {q'} {u} {v} {v'} {v''} {i} x o a e h g d l =
+        let b = a .grown in
+        rw (l .number, l .area)
+        (record {
+          grew = (
+            record { small = h .small; room = h .room; from = h .from; items = h .items; low = o .low; stack = omega (arith, o .stack, b .more, b .paid, g .more, g .paid); within = h .within; blocks = h .blocks; rows = h .rows; structs = h .structs; enums = h .enums; next = h .next; seen = h .seen },
+            record { more = omega (arith, b .more, g .more); paid = omega (arith, b .paid, g .paid); top = omega arith; met = omega (arith, b .met, g .met) },
+          );
+          says =
+              λ S k s σ r.
+              let y = a .along S k s σ r in
+              let z = d S k (y .state) (σ ++ y .bytes) (y .rep) in
+              let j : length (σ ++ y .bytes) ≡ length σ + length (y .bytes) = length-append σ (y .bytes) in
+              rw (run-enough (envOf T S R) stride block (f S) xs m s many (test S s σ r (a .enough)), along-drop y e (z .is))
+              (rw (append-nil σ) (rep-pop S R n σ (y .bytes) (q' .top - p .top) (p .top) (z .rep) (omega (arith, h .stack, h .within, h .room)) (omega (arith, r .top, z .rep .top)) (omega (arith, r .top, z .rep .top))), refl);
+        })
+
+    -- an element is refused
+    pub run-stopped : {q q' : Progress} {v v' : Bytes} {i k : ℕ} (x : X) → Running known R n p w stride m f xs q v i → Ith x i xs → Safe R n q'
+        → ((S : Schema) → known S → (t : State) (τ : Bytes) → Rep S R n t τ q v → Halts S R n k (f S x t) q' v') → Post (Rn.Refused k q') v'
+    run-stopped {q} {q'} {v} {v'} {i} {k} x a e h d = record {
+      grew = h;
+      says =
+          λ S g s σ r.
+          let y = a .along S g s σ r in
+          let z = d S g (y .state) (σ ++ y .bytes) (y .rep) in
+          rw (run-enough (envOf T S R) stride block (f S) xs m s many (test S s σ r (a .enough)), along-stop y e (z .is)) (refl, z .stopped);
+    }
+
+    -- the charge is not enough
+    pub run-too-dear : (c : ℕ) (r : Wrote) (k : ℕ) (q : Progress) → Safe R n p → c ≡ runCost stride m → r ≡ paidIs R p c → r ≡ Refused k q → Post (Rn.Refused k q) w
+    run-too-dear c r k q h e g d =
+        let z = paid-not R p (runCost stride m) k q (ap (paidIs R p) (sym e) ∙ sym g ∙ d) in
+        rw (← z .1, ← z .2)
+        (record {
+          grew = h;
+          says =
+              λ S k s σ r.
+              rw (run-dear (envOf T S R) stride block (f S) xs m s many (test S s σ r (z .0))) (refl, record { state = s; stack = σ; rep = r; met = refl });
+        })
