@@ -174,20 +174,38 @@ isDone (Refused k q) = Unit {0}
 not-done : {k : ℕ} {q s : Progress} → Refused k q ≡ Done s → ⊥
 not-done e = subst isDone e tt
 
--- what paying says: it was enough, or not
-pub paid-done : (R : Round) (p : Progress) (c : ℕ) (s : Progress) → paidIs R p c ≡ Done s → (leb (p .charge + c) (R .cap) ≡ true) × (withPaid p (p .charge + c) ≡ s)
-paid-done R p c s e = by-test (leb (p .charge + c) (R .cap)) e
-  where
-    by-test : (b : Bool) → cond b (Done (withPaid p (p .charge + c))) (Refused 9 p) ≡ Done s → (b ≡ true) × (withPaid p (p .charge + c) ≡ s)
-    by-test true g = (refl, ap progressOf g)
-    by-test false g = absurd (not-done g)
+-- the charge was enough, and is s's then
+pub record Paid (R : Round) (p : Progress) (c : ℕ) (s : Progress) : Type 0 where
+  pub enough : leb (p .charge + c) (R .cap) ≡ true
+  pub is : withPaid p (p .charge + c) ≡ s
 
-pub paid-not : (R : Round) (p : Progress) (c k : ℕ) (q : Progress) → paidIs R p c ≡ Refused k q → (leb (p .charge + c) (R .cap) ≡ false) × (9 ≡ k) × (p ≡ q)
-paid-not R p c k q e = by-test (leb (p .charge + c) (R .cap)) e
+pub paid-done : (R : Round) (p : Progress) (c d : ℕ) (r : Wrote) (s : Progress) → d ≡ c → r ≡ paidIs R p d → r ≡ Done s → Paid R p c s
+paid-done R p c d r s e g h = by-test (leb (p .charge + c) (R .cap)) refl (ap (paidIs R p) (sym e) ∙ sym g ∙ h)
+  where
+    by-test : (b : Bool) → leb (p .charge + c) (R .cap) ≡ b → cond b (Done (withPaid p (p .charge + c))) (Refused 9 p) ≡ Done s → Paid R p c s
+    by-test true t g = record { enough = t; is = ap progressOf g }
+    by-test false t g = absurd (not-done g)
+
+pub paid-not : (R : Round) (p : Progress) (c d k : ℕ) (r : Wrote) (q : Progress) → d ≡ c → r ≡ paidIs R p d → r ≡ Refused k q → (leb (p .charge + c) (R .cap) ≡ false) × (9 ≡ k) × (p ≡ q)
+paid-not R p c d k r q e g h = by-test (leb (p .charge + c) (R .cap)) (ap (paidIs R p) (sym e) ∙ sym g ∙ h)
   where
     by-test : (b : Bool) → cond b (Done (withPaid p (p .charge + c))) (Refused 9 p) ≡ Refused k q → (b ≡ false) × (9 ≡ k) × (p ≡ q)
     by-test true g = absurd (not-done (sym g))
     by-test false g = (refl, ap numberOf g, ap progressOf g)
+
+-- there is room for m elements of `stride` bytes
+pub record Ready (R : Round) (n stride m : ℕ) (s : Progress) : Type 0 where
+  pub safe : Safe R n s
+  pub room : s .top + stride * m ≤ stackAt R + s .charge
+
+-- what m elements of `stride` bytes cost
+abbrev pub runCost : ℕ → ℕ → ℕ
+runCost stride m = 16 + stride * m
+
+pub ready : {R : Round} {n : ℕ} {p s : Progress} (stride m : ℕ) → Safe R n p → Paid R p (runCost stride m) s → Ready R n stride m s
+ready {R} {n} {p} stride m h d =
+    subst (Ready R n stride m) (d .is)
+    (record { safe = safe-paid (runCost stride m) h (leb-true (p .charge + runCost stride m) (R .cap) (d .enough)); room = omega (arith, h .stack) })
 
 -- an element is there: its bytes stand on the stack τ
 pub record Made (S : Schema) (R : Round) (n : ℕ) (τ : Bytes) (o : Out (Option Bytes)) (q : Progress) (v : Bytes) : Type 0 where
@@ -208,19 +226,13 @@ pub record Halts (S : Schema) (R : Round) (n : ℕ) (k : ℕ) (o : Out (Option B
   pub is : o ≡ stop k events
   pub stopped : Stopped S R n events q v
 
--- what m elements of `stride` bytes cost
-abbrev pub runCost : ℕ → ℕ → ℕ
-runCost stride m = 16 + stride * m
-
--- m elements xs are written from p and w on: i of them are, and the numbers and the area are q and v
-pub record Running (known : Schema → Type 0) (R : Round) (n : ℕ) (p : Progress) (w : Bytes) (stride m : ℕ) {X : Type 0} (f : Schema → X → M (Option Bytes)) (xs : List X) (q : Progress) (v : Bytes) (i : ℕ) : Type 0 where
-  pub enough : leb (p .charge + runCost stride m) (R .cap) ≡ true
+-- the elements xs are written from s and w on: i of them are, and the numbers and the area are q and v
+pub record Running (known : Schema → Type 0) (R : Round) (n : ℕ) (s : Progress) (w : Bytes) (stride : ℕ) {X : Type 0} (f : Schema → X → M (Option Bytes)) (xs : List X) (q : Progress) (v : Bytes) (i : ℕ) : Type 0 where
   pub safe : Safe R n q
-  pub grown : Grown (withPaid p (p .charge + runCost stride m)) 0 (stride * i) 0 q
-  pub along : (S : Schema) → known S → (s : State) (σ : Bytes) → Rep S R n s σ p w → Along S R n σ (f S) xs (withCharge (s .charge + runCost stride m) s) q v i
+  pub grown : Grown s 0 (stride * i) 0 q
+  pub along : (S : Schema) → known S → (t : State) (σ : Bytes) → Rep S R n t σ s w → Along S R n σ (f S) xs t q v i
 
 module _ {X : Type 0} (E : Env) (stride block : ℕ) (f : X → M (Option Bytes)) (xs : List X) where
-  -- a run is its elements, where the charge is enough
   abbrev named : Out (Option Bytes) → Out (Option Run)
   named (done o t) = done (mapOption (λ (bs : Bytes). record { bytes = bs; block = block }) o) t
   named (stop k es) = stop k es
@@ -230,6 +242,7 @@ module _ {X : Type 0} (E : Env) (stride block : ℕ) (f : X → M (Option Bytes)
   named-is (done o t) = refl
   named-is (stop k es) = refl
 
+  -- a run is its elements, where the charge is enough
   run-enough : (m : ℕ) (s : State) → length xs ≡ m → leb (s .charge + runCost stride m) (E .chargeCap) ≡ true
       → run E stride block f xs s ≡ named (elements f xs (withCharge (s .charge + runCost stride m) s))
   unfolding run bind after pay
@@ -239,95 +252,131 @@ module _ {X : Type 0} (E : Env) (stride block : ℕ) (f : X → M (Option Bytes)
   unfolding run bind after pay
   run-dear m s l e = rw (l, e) refl
 
-module _ (known : Schema → Type 0) (R : Round) (n : ℕ) (p : Progress) (w : Bytes) (stride m : ℕ) {X : Type 0} (f : Schema → X → M (Option Bytes)) (xs : List X) where
+module _ (known : Schema → Type 0) (R : Round) (n : ℕ) (s : Progress) (w : Bytes) (stride : ℕ) {X : Type 0} (f : Schema → X → M (Option Bytes)) (xs : List X) where
   -- before the first element
-  pub run-begin : (c : ℕ) (r : Wrote) (s : Progress) → Safe R n p → c ≡ runCost stride m → r ≡ paidIs R p c → r ≡ Done s → Running known R n p w stride m f xs s w 0
-  run-begin c r s h e g d =
-      let z = paid-done R p (runCost stride m) s (ap (paidIs R p) (sym e) ∙ sym g ∙ d) in
-      subst (λ (q : Progress). Running known R n p w stride m f xs q w 0) (z .1)
-      (record {
-        enough = z .0;
-        safe = safe-paid (runCost stride m) h (leb-true (p .charge + runCost stride m) (R .cap) (z .0));
-        grown = record { more = omega arith; paid = omega arith; top = omega arith; met = omega arith };
-        along = λ S k s σ r. along-begin (rep-paid (runCost stride m) r);
-      })
+  pub run-begin : Safe R n s → Running known R n s w stride f xs s w 0
+  run-begin h = record {
+    safe = h;
+    grown = record { more = omega arith; paid = omega arith; top = omega arith; met = omega arith };
+    along = λ S k t σ r. along-begin r;
+  }
+
+  -- there is room for the next
+  pub run-room : {q : Progress} {v : Bytes} {i m : ℕ} → Ready R n stride m s → Running known R n s w stride f xs q v i → i < m → Safe R n (withTop q (q .top + stride))
+  run-room {q} {v} {i} {m} d a l =
+      let h = a .safe in
+      let b = a .grown in
+      let j : stride * (i + 1) ≤ stride * m = mul-le-mul-left stride (omega (arith, l)) in
+      record {
+        small = h .small;
+        room = h .room;
+        from = h .from;
+        items = h .items;
+        low = omega (arith, h .low);
+        stack = omega (arith, d .room, b .more, b .paid, b .top, j);
+        within = h .within;
+        blocks = h .blocks;
+        rows = h .rows;
+        structs = h .structs;
+        enums = h .enums;
+        next = h .next;
+        seen = h .seen;
+      }
 
   -- one element more
-  pub run-turn : {q q' : Progress} {v v' : Bytes} {i : ℕ} (x : X) → Running known R n p w stride m f xs q v i → Ith x i xs → Safe R n q' → Grown q 0 stride 0 q'
-      → ((S : Schema) → known S → (t : State) (τ : Bytes) → Rep S R n t τ q v → Made S R n τ (f S x t) q' v') → Running known R n p w stride m f xs q' v' (i + 1)
+  pub run-turn : {q q' : Progress} {v v' : Bytes} {i : ℕ} (x : X) → Running known R n s w stride f xs q v i → Ith x i xs → Safe R n q' → Grown q 0 stride 0 q'
+      → ((S : Schema) → known S → (t : State) (τ : Bytes) → Rep S R n t τ q v → Made S R n τ (f S x t) q' v') → Running known R n s w stride f xs q' v' (i + 1)
   run-turn {q} {q'} {v} {v'} {i} x a e h g d =
       let b = a .grown in
-      let j : stride * (i + 1) ≡ stride * i + stride = omega arith in
       record {
-        enough = a .enough;
         safe = h;
-        grown = record { more = omega (arith, b .more, g .more); paid = omega (arith, b .paid, g .paid); top = omega (arith, b .top, g .top, j); met = omega (arith, b .met, g .met) };
+        grown = record { more = omega (arith, b .more, g .more); paid = omega (arith, b .paid, g .paid); top = omega (arith, b .top, g .top); met = omega (arith, b .met, g .met) };
         along =
-            λ S k s σ r.
-            let y = a .along S k s σ r in
+            λ S k t σ r.
+            let y = a .along S k t σ r in
             let z = d S k (y .state) (σ ++ y .bytes) (y .rep) in
             along-turn y e (z .is) (rw (← append-assoc) (z .rep));
       }
 
-  module _ (T : Bytes) (block : ℕ) (notes : ℕ) (many : length xs ≡ m) where
-    abbrev Post : Ran → Bytes → Type 0
-    Post r v = Yields known R n p w notes (λ S. run (envOf T S R) stride block (f S) xs) r v
+module _ (known : Schema → Type 0) (R : Round) (n : ℕ) (p : Progress) (w : Bytes) (stride m : ℕ) {X : Type 0} (f : Schema → X → M (Option Bytes)) (xs : List X) (T : Bytes) (block notes : ℕ) (many : length xs ≡ m) where
+  abbrev Post : Ran → Bytes → Type 0
+  Post r v = Yields known R n p w notes (λ S. run (envOf T S R) stride block (f S) xs) r v
 
-    test : {b : Bool} (S : Schema) (s : State) (σ : Bytes) → Rep S R n s σ p w → leb (p .charge + runCost stride m) (R .cap) ≡ b → leb (s .charge + runCost stride m) (R .cap) ≡ b
-    test S s σ r e = ap (λ (c : ℕ). leb (c + runCost stride m) (R .cap)) (sym (r .charge)) ∙ e
+  test : {b : Bool} (S : Schema) (t : State) (σ : Bytes) → Rep S R n t σ p w → leb (p .charge + runCost stride m) (R .cap) ≡ b → leb (t .charge + runCost stride m) (R .cap) ≡ b
+  test S t σ r e = ap (λ (c : ℕ). leb (c + runCost stride m) (R .cap)) (sym (r .charge)) ∙ e
 
-    -- all are written
-    pub run-kept : {q : Progress} {v : Bytes} {i : ℕ} → Running known R n p w stride m f xs q v i → i ≡ m → Post (Rn.Kept block q) v
-    run-kept {q} {v} {i} a e =
-        let b = a .grown in
-        record {
-          grew = (a .safe, omega (arith, b .top), record { more = b .more; paid = omega (arith, b .paid, b .top, ap (λ (j : ℕ). stride * j) e); top = omega (arith, b .top); met = omega (arith, b .met) });
-          says =
-              λ S k s σ r.
-              let y = a .along S k s σ r in
-              rw (run-enough (envOf T S R) stride block (f S) xs m s many (test S s σ r (a .enough)), along-end y (omega (arith, many, e))) (y .rep, refl);
-        }
+  rep-then : {s : Progress} {t : State} {σ : Bytes} (S : Schema) → Paid R p (runCost stride m) s → Rep S R n t σ p w → Rep S R n (withCharge (t .charge + runCost stride m) t) σ s w
+  rep-then {s} {t} {σ} S d r = subst (λ (q : Progress). Rep S R n (withCharge (t .charge + runCost stride m) t) σ q w) (d .is) (rep-paid (runCost stride m) r)
 
-    -- an element fails, and those before it are taken off the stack
-    pub run-dropped : {q q' u : Progress} {v v' v'' : Bytes} {i : ℕ} (x : X) → Safe R n p → Running known R n p w stride m f xs q v i → Ith x i xs → Safe R n q' → Grown q 0 0 0 q'
-        → ((S : Schema) → known S → (t : State) (τ : Bytes) → Rep S R n t τ q v → Fails S R n τ (f S x t) q' v') → Fell q' (p .top) v' u v'' → Post (Rn.Dropped u) v''
-    run-dropped {q} {q'} {u} {v} {v'} {v''} {i} x o a e h g d l =
-        let b = a .grown in
-        rw (l .number, l .area)
-        (record {
-          grew = (
-            record { small = h .small; room = h .room; from = h .from; items = h .items; low = o .low; stack = omega (arith, o .stack, b .more, b .paid, g .more, g .paid); within = h .within; blocks = h .blocks; rows = h .rows; structs = h .structs; enums = h .enums; next = h .next; seen = h .seen },
-            record { more = omega (arith, b .more, g .more); paid = omega (arith, b .paid, g .paid); top = omega arith; met = omega (arith, b .met, g .met) },
-          );
-          says =
-              λ S k s σ r.
-              let y = a .along S k s σ r in
-              let z = d S k (y .state) (σ ++ y .bytes) (y .rep) in
-              let j : length (σ ++ y .bytes) ≡ length σ + length (y .bytes) = length-append σ (y .bytes) in
-              rw (run-enough (envOf T S R) stride block (f S) xs m s many (test S s σ r (a .enough)), along-drop y e (z .is))
-              (rw (append-nil σ) (rep-pop S R n σ (y .bytes) (q' .top - p .top) (p .top) (z .rep) (omega (arith, h .stack, h .within, h .room)) (omega (arith, r .top, z .rep .top)) (omega (arith, r .top, z .rep .top))), refl);
-        })
+  grown-then : {s q : Progress} {k : ℕ} → Paid R p (runCost stride m) s → Grown s 0 k 0 q → Grown (withPaid p (p .charge + runCost stride m)) 0 k 0 q
+  grown-then {s} {q} {k} d g = subst (λ (z : Progress). Grown z 0 k 0 q) (sym (d .is)) g
 
-    -- an element is refused
-    pub run-stopped : {q q' : Progress} {v v' : Bytes} {i k : ℕ} (x : X) → Running known R n p w stride m f xs q v i → Ith x i xs → Safe R n q'
-        → ((S : Schema) → known S → (t : State) (τ : Bytes) → Rep S R n t τ q v → Halts S R n k (f S x t) q' v') → Post (Rn.Refused k q') v'
-    run-stopped {q} {q'} {v} {v'} {i} {k} x a e h d = record {
-      grew = h;
-      says =
-          λ S g s σ r.
-          let y = a .along S g s σ r in
-          let z = d S g (y .state) (σ ++ y .bytes) (y .rep) in
-          rw (run-enough (envOf T S R) stride block (f S) xs m s many (test S s σ r (a .enough)), along-stop y e (z .is)) (refl, z .stopped);
-    }
+  -- all are written
+  pub run-kept : {s q : Progress} {v : Bytes} {i : ℕ} → Paid R p (runCost stride m) s → Running known R n s w stride f xs q v i → i ≡ m → Post (Rn.Kept block q) v
+  run-kept {s} {q} {v} {i} d a e =
+      let b = grown-then d (a .grown) in
+      record {
+        grew = (a .safe, omega (arith, b .top), record { more = b .more; paid = omega (arith, b .paid, b .top, ap (λ (j : ℕ). stride * j) e); top = omega (arith, b .top); met = omega (arith, b .met) });
+        says =
+            λ S k t σ r.
+            let y = a .along S k (withCharge (t .charge + runCost stride m) t) σ (rep-then S d r) in
+            rw (run-enough (envOf T S R) stride block (f S) xs m t many (test S t σ r (d .enough)), along-end y (omega (arith, many, e))) (y .rep, refl);
+      }
 
-    -- the charge is not enough
-    pub run-too-dear : (c : ℕ) (r : Wrote) (k : ℕ) (q : Progress) → Safe R n p → c ≡ runCost stride m → r ≡ paidIs R p c → r ≡ Refused k q → Post (Rn.Refused k q) w
-    run-too-dear c r k q h e g d =
-        let z = paid-not R p (runCost stride m) k q (ap (paidIs R p) (sym e) ∙ sym g ∙ d) in
-        rw (← z .1, ← z .2)
-        (record {
-          grew = h;
-          says =
-              λ S k s σ r.
-              rw (run-dear (envOf T S R) stride block (f S) xs m s many (test S s σ r (z .0))) (refl, record { state = s; stack = σ; rep = r; met = refl });
-        })
+  -- an element fails, and those before it are taken off the stack
+  pub run-dropped : {s q q' u : Progress} {v v' v'' : Bytes} {i : ℕ} (x : X) → Safe R n p → Paid R p (runCost stride m) s → Running known R n s w stride f xs q v i → Ith x i xs → Safe R n q'
+      → Grown q 0 0 0 q' → ((S : Schema) → known S → (t : State) (τ : Bytes) → Rep S R n t τ q v → Fails S R n τ (f S x t) q' v') → Fell q' (p .top) v' u v'' → Post (Rn.Dropped u) v''
+  run-dropped {s} {q} {q'} {u} {v} {v'} {v''} {i} x o d a e h g l y =
+      let b = grown-then d (a .grown) in
+      rw (y .number, y .area)
+      (record {
+        grew = (
+          record {
+            small = h .small;
+            room = h .room;
+            from = h .from;
+            items = h .items;
+            low = o .low;
+            stack = omega (arith, o .stack, b .more, b .paid, g .more, g .paid);
+            within = h .within;
+            blocks = h .blocks;
+            rows = h .rows;
+            structs = h .structs;
+            enums = h .enums;
+            next = h .next;
+            seen = h .seen;
+          },
+          record { more = omega (arith, b .more, g .more); paid = omega (arith, b .paid, g .paid); top = omega arith; met = omega (arith, b .met, g .met) },
+        );
+        says =
+            λ S k t σ r.
+            let y = a .along S k (withCharge (t .charge + runCost stride m) t) σ (rep-then S d r) in
+            let z = l S k (y .state) (σ ++ y .bytes) (y .rep) in
+            let j : length (σ ++ y .bytes) ≡ length σ + length (y .bytes) = length-append σ (y .bytes) in
+            rw (run-enough (envOf T S R) stride block (f S) xs m t many (test S t σ r (d .enough)), along-drop y e (z .is))
+            (rw (append-nil σ) (rep-pop S R n σ (y .bytes) (q' .top - p .top) (p .top) (z .rep) (omega (arith, h .stack, h .within, h .room)) (omega (arith, r .top, z .rep .top)) (omega (arith, r .top, z .rep .top))), refl);
+      })
+
+  -- an element is refused
+  pub run-stopped : {s q q' : Progress} {v v' : Bytes} {i k : ℕ} (x : X) → Paid R p (runCost stride m) s → Running known R n s w stride f xs q v i → Ith x i xs → Safe R n q'
+      → ((S : Schema) → known S → (t : State) (τ : Bytes) → Rep S R n t τ q v → Halts S R n k (f S x t) q' v') → Post (Rn.Refused k q') v'
+  run-stopped {s} {q} {q'} {v} {v'} {i} {k} x d a e h l = record {
+    grew = h;
+    says =
+        λ S g t σ r.
+        let y = a .along S g (withCharge (t .charge + runCost stride m) t) σ (rep-then S d r) in
+        let z = l S g (y .state) (σ ++ y .bytes) (y .rep) in
+        rw (run-enough (envOf T S R) stride block (f S) xs m t many (test S t σ r (d .enough)), along-stop y e (z .is)) (refl, z .stopped);
+  }
+
+  -- the charge is not enough
+  pub run-too-dear : (c : ℕ) (r : Wrote) (k : ℕ) (q : Progress) → Safe R n p → c ≡ runCost stride m → r ≡ paidIs R p c → r ≡ Refused k q → Post (Rn.Refused k q) w
+  run-too-dear c r k q h e g d =
+      let z = paid-not R p (runCost stride m) c k r q e g d in
+      rw (← z .1, ← z .2)
+      (record {
+        grew = h;
+        says =
+            λ S k t σ r.
+            rw (run-dear (envOf T S R) stride block (f S) xs m t many (test S t σ r (z .0))) (refl, record { state = t; stack = σ; rep = r; met = refl });
+      })
