@@ -1,2 +1,8 @@
 -- Laws of members and runs.
+pub mod Kinding
+pub mod Celling
+pub mod Looking
+pub mod Filling
+pub mod Slotting
 pub mod Loops
+pub mod CellRuns

@@ -3,10 +3,10 @@ use mathlib.Core.Path.{_≡_, refl, sym, ap, subst, _∙_}
 use mathlib.Core.Bool.{Bool, true, false, cond}
 use mathlib.Core.List.{List, [], _∷_, _++_, append-assoc, append-nil}
 use mathlib.Core.Option.{Option, none, some}
-use Prim.Native.Nat.{ℕ, zero, suc, _+_, _-_, _*_, _≤_, _<_}
+use Prim.Native.Nat.{ℕ, zero, suc, _+_, _-_, _*_, _^_, _≤_, _<_}
 use native.Mathlib.Omega.{arith}
 use borrow.Author.Tests.{leb-true}
-use native.Mathlib.Nat.{mul-le-mul-left}
+use native.Mathlib.Nat.{mul-le-mul, mul-le-mul-left}
 use lib.Dec.{leb}
 use lib.ListN.{length, drop, length-append, drop-of-length-le}
 use Rattle.numbers.specs.Words.{Bytes, over, zeros}
@@ -25,6 +25,7 @@ use Rattle.members.specs.declared.Wrote.the-variants.{Done, Refused}
 use Rattle.members.specs.declared.Ran.{Ran}
 use Rattle.members.specs.declared.Ran.the-variants as Rn
 use Rattle.members.specs.Posts.{paidIs, ranIs, runBytes, Grew, Yields, Fell}
+use Rattle.members.proofs.Slotting.{rep-paid, safe-paid}
 
 -- what the elements so far give stands before what the others give
 abbrev pub joinOut : Bytes → Out (Option Bytes) → Out (Option Bytes)
@@ -122,43 +123,6 @@ row-ith r (suc n) (suc i) h =
 
 -- the charge is paid
 
-pub rep-paid : {S : Schema} {R : Round} {n : ℕ} {s : State} {σ : Bytes} {p : Progress} {w : Bytes} (c : ℕ) → Rep S R n s σ p w → Rep S R n (withCharge (s .charge + c) s) σ (withPaid p (p .charge + c)) w
-rep-paid {p = p} c r = record {
-  work = r .work;
-  blocks = r .blocks;
-  rows = r .rows;
-  structs = r .structs;
-  enums = r .enums;
-  end = r .end;
-  top = r .top;
-  charge = ap (λ (x : ℕ). x + c) (r .charge);
-  seen = r .seen;
-  next = r .next;
-  tiny = r .tiny;
-  small = r .small;
-  structNames = r .structNames;
-  enumNames = r .enumNames;
-  known = r .known;
-  entries = r .entries;
-}
-
-pub safe-paid : {R : Round} {n : ℕ} {p : Progress} (c : ℕ) → Safe R n p → p .charge + c ≤ R .cap → Safe R n (withPaid p (p .charge + c))
-safe-paid {p = p} c h l = record {
-  small = h .small;
-  room = h .room;
-  from = h .from;
-  items = omega (arith, h .items);
-  low = h .low;
-  stack = omega (arith, h .stack);
-  within = l;
-  blocks = h .blocks;
-  rows = h .rows;
-  structs = h .structs;
-  enums = h .enums;
-  next = h .next;
-  seen = omega (arith, h .seen);
-}
-
 abbrev progressOf : Wrote → Progress
 progressOf (Done q) = q
 progressOf (Refused k q) = q
@@ -202,10 +166,16 @@ pub record Ready (R : Round) (n stride m : ℕ) (s : Progress) : Type 0 where
 abbrev pub runCost : ℕ → ℕ → ℕ
 runCost stride m = 16 + stride * m
 
+-- .. has 8 bytes
+pub product-small : (a b : ℕ) → a < 2 ^ 32 → b < 2 ^ 32 → (a * b < 2 ^ 64) × (16 + a * b < 2 ^ 64)
+product-small a b h k =
+    let x : a * b ≤ 4294967295 * 4294967295 = mul-le-mul {n₂ = 4294967295} {m₂ = 4294967295} (omega (arith, h)) (omega (arith, k)) in
+    (omega (arith, x), omega (arith, x))
+
 pub ready : {R : Round} {n : ℕ} {p s : Progress} (stride m : ℕ) → Safe R n p → Paid R p (runCost stride m) s → Ready R n stride m s
 ready {R} {n} {p} stride m h d =
     subst (Ready R n stride m) (d .is)
-    (record { safe = safe-paid (runCost stride m) h (leb-true (p .charge + runCost stride m) (R .cap) (d .enough)); room = omega (arith, h .stack) })
+    (record { safe = safe-paid R n p (runCost stride m) h (leb-true (p .charge + runCost stride m) (R .cap) (d .enough)); room = omega (arith, h .stack) })
 
 -- an element is there: its bytes stand on the stack τ
 pub record Made (S : Schema) (R : Round) (n : ℕ) (τ : Bytes) (o : Out (Option Bytes)) (q : Progress) (v : Bytes) : Type 0 where
@@ -306,7 +276,7 @@ module _ (known : Schema → Type 0) (R : Round) (n : ℕ) (p : Progress) (w : B
   test S t σ r e = ap (λ (c : ℕ). leb (c + runCost stride m) (R .cap)) (sym (r .charge)) ∙ e
 
   rep-then : {s : Progress} {t : State} {σ : Bytes} (S : Schema) → Paid R p (runCost stride m) s → Rep S R n t σ p w → Rep S R n (withCharge (t .charge + runCost stride m) t) σ s w
-  rep-then {s} {t} {σ} S d r = subst (λ (q : Progress). Rep S R n (withCharge (t .charge + runCost stride m) t) σ q w) (d .is) (rep-paid (runCost stride m) r)
+  rep-then {s} {t} {σ} S d r = subst (λ (q : Progress). Rep S R n (withCharge (t .charge + runCost stride m) t) σ q w) (d .is) (rep-paid S R n t σ p w (runCost stride m) r)
 
   grown-then : {s q : Progress} {k : ℕ} → Paid R p (runCost stride m) s → Grown s 0 k 0 q → Grown (withPaid p (p .charge + runCost stride m)) 0 k 0 q
   grown-then {s} {q} {k} d g = subst (λ (z : Progress). Grown z 0 k 0 q) (sym (d .is)) g
