@@ -1,15 +1,17 @@
 -- Runs of cells and of texts by pointer, element by element. No line here names a place of the code. Assumes nothing.
 use mathlib.Core.Path.{_≡_, refl, sym, ap, subst, _∙_}
 use mathlib.Core.List.{List, [], _∷_, _++_, append-nil}
+use mathlib.Core.Bool.{Bool, true, false, cond, _||_, _&&_}
 use mathlib.Core.Option.{Option, none, some}
-use Prim.Native.Nat.{ℕ, _+_, _-_, _*_, _≤_, _<_}
+use Prim.Native.Nat.{ℕ, _+_, _-_, _*_, _^_, _≤_, _<_}
 use native.Mathlib.Omega.{arith}
-use borrow.Rule.Slice.PartMut.{putMid, put-same}
+use borrow.Rule.Slice.PartMut.{putMid, put-same, mid-len}
 use lib.ListN.{length, take, drop, length-append, length-drop, replicate-append-replicate}
 use lib.Seq.{drop-at}
+use lib.Dec.{eqb}
 use Rattle.numbers.specs.Words.{Bytes, over, zeros, padded}
 use Rattle.numbers.specs.Result.{orValue}
-use Rattle.value.specs.Rows.{Row, row, rowsFrom}
+use Rattle.value.specs.Rows.{Row, row, rowsFrom, textOf, textArea, Str, Null, Hash}
 use Rattle.coerce.specs.Numbers.{Fit, fits, unfit, floatText, strOf}
 use Rattle.schema.specs.Defs.{Schema}
 use Rattle.layout.specs.State.{State, Out, done, stop, M, after, bind, ret, fail, fitM}
@@ -30,6 +32,7 @@ use Rattle.members.specs.declared.cells.Cell.{Cell}
 use Rattle.members.specs.declared.cells.Put.the-variants.{Stored, Unfit, FloatText}
 use Rattle.members.specs.Cells.{cellBytes, Puts, cellElement}
 use Rattle.members.specs.Posts.{anySchema, wroteIs, Slots, Yields, Fell}
+use Rattle.members.proofs.Celling.{take-fits}
 use Rattle.members.proofs.Loops.{Made, Fails, Halts, Ready, Running, Paid, runCost, row-ith, length-rowsFrom, run-room, run-turn, run-dropped, run-stopped}
 
 -- bytes over as many zeros are filled up
@@ -102,28 +105,42 @@ module _ (R : Round) (n : ℕ) (s : Progress) (w T F : Bytes) (cell : Cell) (str
   abbrev pub Cells : Progress → Bytes → ℕ → Type 0
   Cells q v i = Running anySchema R n s w stride (λ S r. cellElement T F cell stride r) (rowsFrom first m) q v i
 
-  module _ (q : Progress) (v : Bytes) (i : ℕ) (d : Ready R n stride m s) (a : Cells q v i) (less : i < m) (y : Row) (is : y ≡ row T (first + i)) (len : ℕ) (wide : len ≡ stride) (c : Bytes) where
-    pub cells-turn : Puts (cellBytes T F cell y) (take len (drop (q .top) v)) 0 Stored c → length c ≡ len → Cells (withTop q (q .top + stride)) (putMid (q .top) len v c) (i + 1)
-    cells-turn u l =
+  module _ (q : Progress) (v : Bytes) (i : ℕ) (d : Ready R n stride m s) (a : Cells q v i) (less : i < m) where
+    pub cells-room : q .top + stride ≤ n
+    cells-room =
         let h = run-room anySchema R n s w stride (λ S r. cellElement T F cell stride r) (rowsFrom first m) d a less in
-        run-turn anySchema R n s w stride (λ S r. cellElement T F cell stride r) (rowsFrom first m) (first + i) a (row-ith first m i less) h
-        (record { more = omega arith; paid = omega arith; top = refl; met = omega arith })
-        (λ S k t τ r. cell-made S R n T F cell stride len (first + i) y is wide q v c t τ u l (omega (arith, h .stack, h .within, h .room)) r)
+        omega (arith, h .stack, h .within, h .room)
 
-    module _ (p : Progress) (block : ℕ) (o : Safe R n p) (paid : Paid R p (runCost stride m) s) where
-      abbrev Cells-post : Ran → Bytes → Type 0
-      Cells-post x z = Yields anySchema R n p w 0 (λ S. run (envOf T S R) stride block (cellElement T F cell stride) (rowsFrom first m)) x z
+    abbrev len : ℕ
+    len = q .top + stride - q .top
 
-      pub cells-dropped : (u : Progress) (z : Bytes) → Puts (cellBytes T F cell y) (take len (drop (q .top) v)) 0 Unfit c → Fell q (p .top) (putMid (q .top) len v c) u z → Cells-post (Rn.Dropped u) z
-      cells-dropped u z e f =
-          run-dropped anySchema R n p w stride m (λ S r. cellElement T F cell stride r) (rowsFrom first m) T block 0 (length-rowsFrom first m) (first + i) o paid a (row-ith first m i less) (a .safe)
-          (record { more = omega arith; paid = omega arith; top = omega arith; met = omega arith })
-          (λ S k t τ r. cell-fails S R n T F cell stride len (first + i) y is wide q v c t τ e r) f
+    wide : len ≡ stride
+    wide = omega arith
 
-      pub cells-stopped : Puts (cellBytes T F cell y) (take len (drop (q .top) v)) 0 FloatText c → Cells-post (Rn.Refused 11 q) (putMid (q .top) len v c)
-      cells-stopped e =
-          run-stopped anySchema R n p w stride m (λ S r. cellElement T F cell stride r) (rowsFrom first m) T block 0 (length-rowsFrom first m) (first + i) paid a (row-ith first m i less) (a .safe)
-          (λ S k t τ r. cell-halts S R n T F cell stride len (first + i) y is wide q v c t τ e r)
+    -- the next cell's bytes are lent
+    module _ (y : Row) (is : y ≡ row T (first + i)) (c : Bytes) where
+      pub cells-turn : Puts (cellBytes T F cell y) (take len (drop (q .top) v)) 0 Stored c → length v ≡ n → length c ≡ length (take len (drop (q .top) v))
+          → Cells (withTop q (q .top + stride)) (putMid (q .top) len v c) (i + 1)
+      cells-turn u e l =
+          run-turn anySchema R n s w stride (λ S r. cellElement T F cell stride r) (rowsFrom first m) (first + i) a (row-ith first m i less)
+          (run-room anySchema R n s w stride (λ S r. cellElement T F cell stride r) (rowsFrom first m) d a less)
+          (record { more = omega arith; paid = omega arith; top = refl; met = omega arith })
+          (λ S k t τ r. cell-made S R n T F cell stride len (first + i) y is wide q v c t τ u (l ∙ mid-len (q .top) (q .top + stride) v (rw e cells-room)) cells-room r)
+
+      module _ (p : Progress) (block : ℕ) (o : Safe R n p) (paid : Paid R p (runCost stride m) s) where
+        abbrev Cells-post : Ran → Bytes → Type 0
+        Cells-post x z = Yields anySchema R n p w 0 (λ S. run (envOf T S R) stride block (cellElement T F cell stride) (rowsFrom first m)) x z
+
+        pub cells-dropped : (u : Progress) (z : Bytes) → Puts (cellBytes T F cell y) (take len (drop (q .top) v)) 0 Unfit c → Fell q (p .top) (putMid (q .top) len v c) u z → Cells-post (Rn.Dropped u) z
+        cells-dropped u z e f =
+            run-dropped anySchema R n p w stride m (λ S r. cellElement T F cell stride r) (rowsFrom first m) T block 0 (length-rowsFrom first m) (first + i) o paid a (row-ith first m i less) (a .safe)
+            (record { more = omega arith; paid = omega arith; top = omega arith; met = omega arith })
+            (λ S k t τ r. cell-fails S R n T F cell stride len (first + i) y is wide q v c t τ e r) f
+
+        pub cells-stopped : Puts (cellBytes T F cell y) (take len (drop (q .top) v)) 0 FloatText c → Cells-post (Rn.Refused 11 q) (putMid (q .top) len v c)
+        cells-stopped e =
+            run-stopped anySchema R n p w stride m (λ S r. cellElement T F cell stride r) (rowsFrom first m) T block 0 (length-rowsFrom first m) (first + i) paid a (row-ith first m i less) (a .safe)
+            (λ S k t τ r. cell-halts S R n T F cell stride len (first + i) y is wide q v c t τ e r)
 
 -- texts by pointer
 module _ (S : Schema) (R : Round) (n : ℕ) (T : Bytes) (sub r : ℕ) (x : Bytes) (is : x ≡ orValue (strOf T (row T r)) []) (q : Progress) (v : Bytes) (u : Progress) (z : Bytes) (t : State) (τ : Bytes) where
@@ -157,6 +174,16 @@ module _ (S : Schema) (R : Round) (n : ℕ) (T : Bytes) (sub r : ℕ) (x : Bytes
       go (done b t') g l = absurd l
       go (stop j es) g l = record { events = es; is = text-is (stop j es) g ∙ ap (λ (i : ℕ). stop i es) (sym (l .0)); stopped = l .1 }
 
+-- a text is shorter than the sheet's numbers are high
+pub text-short : (T : Bytes) (v : Row) (x : Bytes) → x ≡ orValue (strOf T v) [] → v .b < 2 ^ 32 → length x < 2 ^ 40
+unfolding strOf textOf
+text-short T v x e h = by-kind (eqb (v .kind) Str) (eqb (v .kind) Null || (eqb (v .kind) Hash && eqb (v .a) 0)) e
+  where
+    by-kind : (a b : Bool) → x ≡ orValue (cond a (some (take (v .b) (drop (v .a) (textArea T)))) (cond b (some []) none)) [] → length x < 2 ^ 40
+    by-kind true b g = omega (arith, ap length g, take-fits (v .b) (drop (v .a) (textArea T)), h)
+    by-kind false true g = omega (arith, ap length g)
+    by-kind false false g = omega (arith, ap length g)
+
 -- a run of texts by pointer
 module _ (R : Round) (n : ℕ) (s : Progress) (w T : Bytes) (sub first m : ℕ) where
   abbrev texts : Schema → ℕ → M (Option Bytes)
@@ -165,21 +192,35 @@ module _ (R : Round) (n : ℕ) (s : Progress) (w T : Bytes) (sub first m : ℕ) 
   abbrev pub Texts : Progress → Bytes → ℕ → Type 0
   Texts q v i = Running anySchema R n s w (slotSize sub) texts (rowsFrom first m) q v i
 
-  module _ (q : Progress) (v : Bytes) (i : ℕ) (d : Ready R n (slotSize sub) m s) (a : Texts q v i) (less : i < m) (x : Bytes) (is : x ≡ orValue (strOf T (row T (first + i))) []) (u : Progress) (z : Bytes) where
-    pub texts-room : Safe R n (withTop q (q .top + slotSize sub))
-    texts-room = run-room anySchema R n s w (slotSize sub) texts (rowsFrom first m) d a less
+  module _ (q : Progress) (v : Bytes) (i : ℕ) (d : Ready R n (slotSize sub) m s) (a : Texts q v i) (less : i < m) (stride : ℕ) (slot : stride ≡ slotSize sub) where
+    room : Safe R n (withTop q (q .top + slotSize sub))
+    room = run-room anySchema R n s w (slotSize sub) texts (rowsFrom first m) d a less
 
-    pub texts-turn : Slots R n (withTop q (q .top + slotSize sub)) v sub x (q .top) (Done u) z → Texts u z (i + 1)
-    texts-turn e =
-        let h = texts-room in
-        let g = e .grew .1 in
-        run-turn anySchema R n s w (slotSize sub) texts (rowsFrom first m) (first + i) a (row-ith first m i less) (e .grew .0)
-        (record { more = g .more; paid = omega (arith, g .paid); top = omega (arith, g .top); met = omega (arith, g .met) })
-        (λ S k t τ r. text-made S R n T sub (first + i) x is q v u z t τ e (omega (arith, h .stack, h .within, h .room)) r)
+    pub texts-room : Safe R n (withTop q (q .top + stride))
+    texts-room = rw slot room
 
-    pub texts-stopped : (p : Progress) (block k : ℕ) → Paid R p (runCost (slotSize sub) m) s → Slots R n (withTop q (q .top + slotSize sub)) v sub x (q .top) (Refused k u) z
-        → Yields anySchema R n p w 0 (λ S. run (envOf T S R) (slotSize sub) block (textElement (envOf T S R) sub) (rowsFrom first m)) (Rn.Refused k u) z
-    texts-stopped p block k paid e =
-        let h = texts-room in
-        run-stopped anySchema R n p w (slotSize sub) m texts (rowsFrom first m) T block 0 (length-rowsFrom first m) (first + i) paid a (row-ith first m i less) (e .grew)
-        (λ S k' t τ r. text-halts S R n T sub (first + i) x is q v u z t τ k e (omega (arith, h .stack, h .within, h .room)) r)
+    inside : q .top + slotSize sub ≤ n
+    inside = omega (arith, room .stack, room .within, room .room)
+
+    -- the next text's slot
+    module _ (y : Row) (row-is : y ≡ row T (first + i)) (x : Bytes) (text-is : x ≡ orValue (strOf T y) []) (k : ℕ) (same : k ≡ n) where
+      is : x ≡ orValue (strOf T (row T (first + i))) []
+      is = rw (← row-is) text-is
+
+      slots : (o r : Wrote) (z : Bytes) → r ≡ o → Slots R k (withTop q (q .top + stride)) v sub x (q .top) r z → Slots R n (withTop q (q .top + slotSize sub)) v sub x (q .top) o z
+      slots o r z e g = rw (← same, ← slot, ← e) g
+
+      pub texts-turn : (u : Progress) (r : Wrote) (z : Bytes) → r ≡ Done u → Slots R k (withTop q (q .top + stride)) v sub x (q .top) r z → Texts u z (i + 1)
+      texts-turn u r z f g =
+          let e = slots (Done u) r z f g in
+          let b = e .grew .1 in
+          run-turn anySchema R n s w (slotSize sub) texts (rowsFrom first m) (first + i) a (row-ith first m i less) (e .grew .0)
+          (record { more = b .more; paid = omega (arith, b .paid); top = omega (arith, b .top); met = omega (arith, b .met) })
+          (λ S k t τ r. text-made S R n T sub (first + i) x is q v u z t τ e inside r)
+
+      pub texts-stopped : (p : Progress) (block j : ℕ) (u : Progress) (r : Wrote) (z : Bytes) → Paid R p (runCost (slotSize sub) m) s → r ≡ Refused j u → Slots R k (withTop q (q .top + stride)) v sub x (q .top) r z
+          → Yields anySchema R n p w 0 (λ S. run (envOf T S R) (slotSize sub) block (textElement (envOf T S R) sub) (rowsFrom first m)) (Rn.Refused j u) z
+      texts-stopped p block j u r z paid f g =
+          let e = slots (Refused j u) r z f g in
+          run-stopped anySchema R n p w (slotSize sub) m texts (rowsFrom first m) T block 0 (length-rowsFrom first m) (first + i) paid a (row-ith first m i less) (e .grew)
+          (λ S k t τ r. text-halts S R n T sub (first + i) x is q v u z t τ j e inside r)

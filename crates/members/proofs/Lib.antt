@@ -6,3 +6,4 @@ pub mod Filling
 pub mod Slotting
 pub mod Loops
 pub mod CellRuns
+pub mod Elements

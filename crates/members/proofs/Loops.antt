@@ -150,6 +150,9 @@ paid-done R p c d r s e g h = by-test (leb (p .charge + c) (R .cap)) refl (ap (p
     by-test true t g = record { enough = t; is = ap progressOf g }
     by-test false t g = absurd (not-done g)
 
+pub paid-top : {R : Round} {p s : Progress} {c : ℕ} → Paid R p c s → s .top ≡ p .top
+paid-top d = ap (λ (q : Progress). q .top) (sym (d .is))
+
 pub paid-not : (R : Round) (p : Progress) (c d k : ℕ) (r : Wrote) (q : Progress) → d ≡ c → r ≡ paidIs R p d → r ≡ Refused k q → (leb (p .charge + c) (R .cap) ≡ false) × (9 ≡ k) × (p ≡ q)
 paid-not R p c d k r q e g h = by-test (leb (p .charge + c) (R .cap)) (ap (paidIs R p) (sym e) ∙ sym g ∙ h)
   where
