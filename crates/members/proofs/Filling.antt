@@ -6,9 +6,8 @@ use mathlib.Core.Option.{none, some}
 use Prim.Native.Nat.{ℕ, _+_, _-_, _*_, _≤_}
 use native.Mathlib.Omega.{arith}
 use lib.Dec.{leb}
-use lib.ListN.{length, take, drop, length-append, length-drop}
-use lib.Seq.{length-take-le}
-use borrow.Rule.Slice.PartMut.{putMid, mid-len, put-same}
+use lib.ListN.{length, take, drop}
+use borrow.Rule.Slice.PartMut.{putMid, mid-len, same-len-mid, put-same}
 use Rattle.numbers.specs.Words.{Bytes, over}
 use Rattle.numbers.specs.Result.{isSome}
 use Rattle.value.specs.Rows.{Value, Row, valueRow}
@@ -55,13 +54,6 @@ need-no d e k buf a t = rw t refl
 pub need-yes : (d : StructDef) (e : Defs.Member) (k : ℕ) (buf : Bytes) (a : M Bytes) → leb (e .offset + k) (d .size) ≡ true → need d e k buf a ≡ a
 unfolding need ifM
 need-yes d e k buf a t = rw t refl
-
--- what came back is as long as what was lent
-mid-long : (at k : ℕ) (w c : Bytes) → at + k ≤ length w → length (putMid at k w c) ≡ length w → length c ≡ k
-mid-long at k w c h e =
-    let a : length (take at w ++ (c ++ drop k (drop at w))) ≡ length (take at w) + length (c ++ drop k (drop at w)) = length-append (take at w) (c ++ drop k (drop at w)) in
-    let b : length (c ++ drop k (drop at w)) ≡ length c + length (drop k (drop at w)) = length-append c (drop k (drop at w)) in
-    omega (arith, a, b, e, length-take-le at w (omega arith), length-drop k (drop at w), length-drop at w)
 
 module _ (R : Round) (n : ℕ) (p : Progress) (w : Bytes) where
   -- the numbers where nothing was done
@@ -208,19 +200,19 @@ module _ (R : Round) (n : ℕ) (p : Progress) (w : Bytes) where
       part = take wide (drop low w)
 
       -- it was stored
-      pub cell-stored : (q : Progress) (w' : Bytes) → Safe R n p → Buffer R p (d .size) → n ≡ length w → Puts (cell row) part (m .offset) Stored c → length (putMid low wide w c) ≡ length w
+      pub cell-stored : (q : Progress) (w' : Bytes) → Safe R n p → Buffer R p (d .size) → n ≡ length w → Puts (cell row) part (m .offset) Stored c → length c ≡ length part
           → Marked R (length (putMid low wide w c)) p (putMid low wide w c) known name q w' → Fills found R n p w (d .size) cells (Done q) w'
       unfolding fitM
       cell-stored q w' h b i u l t = go (cell row) refl u
         where
           long : length c ≡ wide
-          long = mid-long low wide w c (omega (arith, h, b)) l
+          long = l ∙ mid-len low (p .top) w (omega (arith, h))
           go : (x : Fit Bytes) → cell row ≡ x → Puts x part (m .offset) Stored c → Fills found R n p w (d .size) cells (Done q) w'
           go (fits bs) g y =
               fills-as found found (d .size) cells (λ S buf. bind (ifM known (useEnum name) (ret tt)) λ _. ret (over buf (m .offset) bs)) (Done q) w'
               (λ S z. (z, λ buf s. cell-is (fits bs) g S buf s))
               (stored-bytes known name (d .size) bs (m .offset) low wide c q w' h (omega (arith, b)) (omega (arith, b)) y long
-              (subst (λ (o : ℕ). Marked R o p (putMid low wide w c) known name q w') (l ∙ sym i) t))
+              (subst (λ (o : ℕ). Marked R o p (putMid low wide w c) known name q w') (same-len-mid low wide w c l ∙ sym i) t))
           go unfit g y = absurd y
           go floatText g y = absurd y
 

@@ -104,7 +104,7 @@ returns-2 c = let s = c .before .before .before .before .before .before .before 
     let a = s .args in
     let put = c .before .before .before .before .before .before .before .before in
     cell-stored (a .round) (length (a .work .now)) (a .p) (a .work .now) (a .sheet .now) (a .schema .now) (a .d) (a .m) (valueIs (a .v)) (a .need) (cellBytes (a .sheet .now) (a .schema .now) (a .cell)) (a .known) (a .name) (c .before .before .before .before .before .before .before .before .before .before .before .before .value-row .result) (c .before .before .before .before .before .before .before .before .before .before .before .before .value-row .ensures) (sym (c .before .before .before .before .before .before .before .before .before .before .before .before .before .before .fits2 .ensures) ∙ not-false (c .before .before .before .before .before .before .before .before .before .before .before .before .before .before .fits2 .result) (c .before .before .before .before .before .before .before .before .before .before .before .before .before .if1 .left)) (put .put-cell .last .1 .1 .0)
-    (c .before .before .used .result) (c .before .before .used .last .0) (s .pre .0 .0) (s .pre .1 .0) refl (rw (← c .before .before .before .before .enum-told .given .1) (put .put-cell .ensures)) (c .before .before .before .before .before .before .before .work2 .given) (c .before .before .used .ensures)
+    (c .before .before .used .result) (c .before .before .used .last .0) (s .pre .0 .0) (s .pre .1 .0) refl (rw (← c .before .before .before .before .enum-told .given .1) (put .put-cell .ensures)) (c .before .before .before .before .before .before .before .work2 .given .0) (c .before .before .used .ensures)
 
 -- src/member.rt:83:1
 same-length-3 : tie.Need-same-length-3
