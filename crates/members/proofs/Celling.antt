@@ -1,5 +1,5 @@
 -- What is stored in a cell. Assumes nothing.
-use Prim.Native.Nat.{ℕ, zero, suc, _+_, _-_, _*_, _≤_, _<_}
+use Prim.Native.Nat.{ℕ, zero, suc, _+_, _-_, _≤_, _<_}
 use native.Mathlib.Omega.{arith}
 use mathlib.Core.Path.{_≡_, refl, sym, ap, _∙_, subst}
 use mathlib.Core.Bool.{Bool, true, false, not}
@@ -12,7 +12,7 @@ use Rattle.numbers.specs.Result.{isSome, orValue, mapOption}
 use Rattle.numbers.specs.Answer.{wordIs}
 use Rattle.numbers.specs.declared.parse.Word.{Word}
 use Rattle.value.specs.Rows.{Row}
-use Rattle.coerce.specs.Numbers.{Fit, fits, unfit, floatText, mapFit, fitOr, intOf, floatOf, vecOf, strOf}
+use Rattle.coerce.specs.Numbers.{Fit, fits, unfit, floatText, mapFit, fitOr, intOf, floatOf, vecOf}
 use Rattle.coerce.specs.Names.{hashOf, enumValue, flagsBits}
 use Rattle.coerce.specs.Answer.{intIs, bitsIs, vecIs, nothing}
 use Rattle.coerce.specs.declared.vector.Vector.{Vector}

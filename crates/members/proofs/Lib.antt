@@ -4,6 +4,7 @@ pub mod Celling
 pub mod Looking
 pub mod Filling
 pub mod Slotting
+pub mod Choosing
 pub mod Loops
 pub mod CellRuns
 pub mod Elements

@@ -27,14 +27,14 @@ use value::Row;
 use value::value_row;
 ghost use mathlib.Core.Path.{_≡_};
 ghost use mathlib.Core.Bool.{true};
-ghost use Prim.Native.Nat.{_+_, _≤_, _<_, _^_};
+ghost use Prim.Native.Nat.{ℕ, _+_, _≤_, _<_, _^_};
 ghost use lib.Dec.{leb};
 ghost use lib.ListN.{length};
 ghost use Rattle.numbers.specs.Words.{Bytes};
 ghost use Rattle.numbers.specs.Result.{ok, isSome};
 ghost use Rattle.value.specs.Answer.{valueIs};
 ghost use Rattle.schema.specs.Defs.{Schema, winning};
-ghost use Rattle.schema.specs.Psch.{schemaOf};
+ghost use Rattle.schema.specs.Psch.{schemaOf, entriesAt};
 ghost use Rattle.layout.specs.Kinds;
 ghost use Rattle.layout.specs.Members;
 ghost use Rattle.area.specs.Area.{stackAt, envOf};
@@ -281,6 +281,18 @@ fn named_cell(flags: bool, at: usize, n: usize, k: usize) -> Cell
     Cell::Enum(at, n, k)
 }
 
+// Where the entries of the enum at a place begin; the file's end, where that is before it.
+pub fn entries_at(schema: &[u8], place: usize) -> usize
+    requires { ⌜ place < length (now schema) ⌝ }
+    ensures { λ r. ⌜ (r < 2 ^ 63) × ((n : ℕ) → entriesAt (now (schema .entry)) n r ≡ entriesAt (now (schema .entry)) n (place + 4)) ⌝ }
+{
+    let at = place + 4;
+    if schema.len() < at {
+        return schema.len();
+    }
+    at
+}
+
 // An enum or flags member, by the entries of the enum h.
 fn write_named(
     sheet: &[u8],
@@ -317,6 +329,7 @@ fn write_named(
         ),
         Place::At(at) => {
             let n = entry_count(schema, at) as usize;
+            let from = entries_at(schema, at);
             write_cell(
                 sheet,
                 schema,
@@ -326,7 +339,7 @@ fn write_named(
                 d,
                 m,
                 v,
-                named_cell(flags, at + 4, n, k),
+                named_cell(flags, from, n, k),
                 k,
                 true,
                 h,
