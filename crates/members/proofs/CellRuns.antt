@@ -1,17 +1,15 @@
 -- Runs of cells and of texts by pointer, element by element. No line here names a place of the code. Assumes nothing.
 use mathlib.Core.Path.{_≡_, refl, sym, ap, subst, _∙_}
 use mathlib.Core.List.{List, [], _∷_, _++_, append-nil}
-use mathlib.Core.Bool.{Bool, true, false, cond, _||_, _&&_}
 use mathlib.Core.Option.{Option, none, some}
-use Prim.Native.Nat.{ℕ, _+_, _-_, _*_, _^_, _≤_, _<_}
+use Prim.Native.Nat.{ℕ, _+_, _-_, _≤_, _<_}
 use native.Mathlib.Omega.{arith}
 use borrow.Rule.Slice.PartMut.{putMid, put-same, mid-len}
 use lib.ListN.{length, take, drop, length-append, length-drop, replicate-append-replicate}
 use lib.Seq.{drop-at}
-use lib.Dec.{eqb}
 use Rattle.numbers.specs.Words.{Bytes, over, zeros, padded}
 use Rattle.numbers.specs.Result.{orValue}
-use Rattle.value.specs.Rows.{Row, row, rowsFrom, textOf, textArea, Str, Null, Hash}
+use Rattle.value.specs.Rows.{Row, row, rowsFrom}
 use Rattle.coerce.specs.Numbers.{Fit, fits, unfit, floatText, strOf}
 use Rattle.schema.specs.Defs.{Schema}
 use Rattle.layout.specs.State.{State, Out, done, stop, M, after, bind, ret, fail, fitM}
@@ -32,7 +30,6 @@ use Rattle.members.specs.declared.cells.Cell.{Cell}
 use Rattle.members.specs.declared.cells.Put.the-variants.{Stored, Unfit, FloatText}
 use Rattle.members.specs.Cells.{cellBytes, Puts, cellElement}
 use Rattle.members.specs.Posts.{anySchema, wroteIs, Slots, Yields, Fell}
-use Rattle.members.proofs.Celling.{take-fits}
 use Rattle.members.proofs.Loops.{Made, Fails, Halts, Ready, Running, Paid, runCost, row-ith, length-rowsFrom, run-room, run-turn, run-dropped, run-stopped}
 
 -- bytes over as many zeros are filled up
@@ -173,16 +170,6 @@ module _ (S : Schema) (R : Round) (n : ℕ) (T : Bytes) (sub r : ℕ) (x : Bytes
       go : (o : Out Bytes) → slot ≡ o → Meets S R n (λ b. τ ++ b) (λ b x. length b ≡ length (zeros (slotSize sub))) o (wroteIs (Refused k u)) z → Halts S R n k (textElement (envOf T S R) sub r t) u z
       go (done b t') g l = absurd l
       go (stop j es) g l = record { events = es; is = text-is (stop j es) g ∙ ap (λ (i : ℕ). stop i es) (sym (l .0)); stopped = l .1 }
-
--- a text is shorter than the sheet's numbers are high
-pub text-short : (T : Bytes) (v : Row) (x : Bytes) → x ≡ orValue (strOf T v) [] → v .b < 2 ^ 32 → length x < 2 ^ 40
-unfolding strOf textOf
-text-short T v x e h = by-kind (eqb (v .kind) Str) (eqb (v .kind) Null || (eqb (v .kind) Hash && eqb (v .a) 0)) e
-  where
-    by-kind : (a b : Bool) → x ≡ orValue (cond a (some (take (v .b) (drop (v .a) (textArea T)))) (cond b (some []) none)) [] → length x < 2 ^ 40
-    by-kind true b g = omega (arith, ap length g, take-fits (v .b) (drop (v .a) (textArea T)), h)
-    by-kind false true g = omega (arith, ap length g)
-    by-kind false false g = omega (arith, ap length g)
 
 -- a run of texts by pointer
 module _ (R : Round) (n : ℕ) (s : Progress) (w T : Bytes) (sub first m : ℕ) where

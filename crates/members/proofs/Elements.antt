@@ -1,24 +1,45 @@
 -- Runs that lead to no structure, by their elements' kind. No line here names a place of the code. Assumes nothing.
-use mathlib.Core.Path.{_≡_, refl, sym, ap, subst, _∙_}
+use mathlib.Core.Path.{_≡_, refl, sym, ap, subst, fun-ext, _∙_}
 use mathlib.Core.List.{List, _++_, append-nil}
+use mathlib.Core.Logic.{_⊎_, inl, inr}
+use mathlib.Core.Bool.{Bool, true, false}
 use mathlib.Core.Option.{Option, none, some}
 use Prim.Native.Nat.{ℕ, _+_, _-_, _*_, _≤_, _<_}
 use native.Mathlib.Omega.{arith}
-use Rattle.numbers.specs.Words.{Bytes}
-use Rattle.schema.specs.Defs.{Schema}
+use borrow.Author.Tests.{eqb-true, eqb-false, eq-eqb, ne-eqb, le-leb, lt-leb}
+use lib.Dec.{leb, eqb}
+use lib.ListN.{length, take}
+use Rattle.numbers.specs.Words.{Bytes, bytesOf, padded, zeros, readAt}
+use Rattle.numbers.specs.Result.{ok, isSome, mapOption, orValue}
+use Rattle.numbers.proofs.Bytes.{length-bytes}
+use Rattle.value.specs.Rows.{row, rowsFrom}
+use Rattle.coerce.specs.Numbers.{Fit, fits, unfit, floatText, mapFit, fitOr, strOf}
+use Rattle.coerce.specs.Names.{hashOf, enumValue}
+use Rattle.schema.specs.Defs
+use Rattle.schema.specs.Defs.{Schema, StructDef, winning}
+use Rattle.schema.specs.Psch.{schemaOf, entriesAt, enumHere}
+use Rattle.schema.specs.Answers.{enumFound}
+use Rattle.schema.specs.declared.lookup.Found.{Found}
+use Rattle.schema.specs.declared.lookup.Found.the-variants.{At, Nothing}
 use Rattle.schema.specs.declared.members.Member as coded
-use Rattle.layout.specs.State.{State, M, done, after, bind, ret, remark, withRemark}
-use Rattle.layout.specs.Members.{says}
-use Rattle.layout.specs.Runs.{Run, stops}
+use Rattle.layout.specs.State.{State, Env, M, done, stop, after, bind, ret, ifM, fitM, fail, remark, withRemark, useEnum, logEnum, onCore, settle, useEnumC}
+use Rattle.layout.specs.Kinds
+use Rattle.layout.specs.Members.{says, high16, slotSize, entriesOf, useEnumOf}
+use Rattle.layout.specs.Runs.{Run, stops, run, textRun, fixedRun, enumRun, fixedElement, hashElement, enumElement, textElement, scalarElement, scalarStride}
 use Rattle.area.specs.declared.Round.{Round}
 use Rattle.area.specs.declared.Progress.{Progress}
-use Rattle.area.specs.Posts.{Safe, Open, Grown, Notes}
+use Rattle.area.specs.Area.{usedIn, envOf}
+use Rattle.area.specs.Posts.{Safe, Open, Grown, Notes, Marks}
+use Rattle.area.proofs.Flat.{padded-is}
 use Rattle.members.specs.declared.Def.{Def}
+use Rattle.members.specs.declared.cells.Cell.{Cell}
+use Rattle.members.specs.declared.cells.Cell.the-variants as C
 use Rattle.members.specs.declared.Ran.{Ran}
 use Rattle.members.specs.declared.Ran.the-variants as Rn
 use Rattle.members.specs.Names.{defOf, memberOf}
-use Rattle.members.specs.Posts.{remarkOn, Grew, Yields, anySchema}
-use Rattle.members.proofs.Filling.{went-noted}
+use Rattle.members.specs.Cells.{cellBytes, cellElement}
+use Rattle.members.specs.Posts.{remarkOn, Grew, Yields, anySchema, slotBlock}
+use Rattle.members.proofs.Filling.{went-noted, went-marked}
 
 -- a remark stops a run
 stops-is : (F : Bytes) (d : Def) (m : coded.Member) (kind detail : ℕ) (s : State) → stops (defOf F d) (memberOf m) kind detail s ≡ done none (withRemark (remarkOn d m kind detail) s)
@@ -44,3 +65,141 @@ module _ (R : Round) (n : ℕ) (p : Progress) (w : Bytes) where
       → ((S : Schema) → known S → less S × (f S ≡ g S)) → Yields less R n p w j g r w' → Yields known R n p w k f r w'
   yields-as known less j k f g r w' l e a =
       record { grew = grew-more j k r l (a .grew); says = λ S z s σ q. rw (e S z .1) (a .says S (e S z .0) s σ q) }
+
+-- elements as cells
+
+padded-exact : (k : ℕ) (b : Bytes) → length b ≡ k → padded k b ≡ b
+padded-exact k b e = let z : k - length b ≡ 0 = omega (arith, e) in padded-is k b (omega (arith, e)) ∙ ap (λ (j : ℕ). b ++ zeros j) z ∙ append-nil b
+
+module _ (E : Env) (F : Bytes) where
+  -- a hash
+  hash-cells : hashElement E ≡ cellElement (E .sheet) F C.Hash 4
+  unfolding hashElement cellElement cellBytes fitM
+  hash-cells = fun-ext λ r. by-hash (hashOf (E .sheet) (row (E .sheet) r))
+    where
+      by-hash : (o : Option ℕ) → ret (mapOption (bytesOf 4) o) ≡ fitM (fitOr (mapOption (bytesOf 4) o) unfit) (ret none) (λ bs. ret (some (padded 4 bs)))
+      by-hash none = refl
+      by-hash (some h) = ap (λ (b : Bytes). ret (some b)) (sym (padded-exact 4 (bytesOf 4 h) (length-bytes 4 h)))
+
+  -- a text in len bytes
+  fixed-cells : (len : ℕ) → fixedElement E len ≡ cellElement (E .sheet) F (C.Fixed len) len
+  unfolding fixedElement cellElement cellBytes fitM
+  fixed-cells len = fun-ext λ r. by-text (strOf (E .sheet) (row (E .sheet) r))
+    where
+      by-text : (o : Option Bytes) → ret (mapOption (λ t. padded len (take (len - 1) t)) o) ≡ fitM (fitOr (mapOption (take (len - 1)) o) unfit) (ret none) (λ bs. ret (some (padded len bs)))
+      by-text none = refl
+      by-text (some t) = refl
+
+  -- an enum's value
+  enum-cells : (h at n : ℕ) → entriesOf (E .defs) h ≡ entriesAt F n at → enumElement E h ≡ cellElement (E .sheet) F (C.Enum at n 4) 4
+  unfolding enumElement cellElement cellBytes fitM
+  enum-cells h at n e = fun-ext λ r. rw e (by-value (enumValue (E .sheet) (entriesAt F n at) (row (E .sheet) r)))
+    where
+      by-value : (x : Fit ℕ) → fitM x (ret none) (λ x. ret (some (bytesOf 4 x))) ≡ fitM (mapFit (bytesOf 4) x) (ret none) (λ bs. ret (some (padded 4 bs)))
+      by-value (fits x) = ap (λ (b : Bytes). ret (some b)) (sym (padded-exact 4 (bytesOf 4 x) (length-bytes 4 x)))
+      by-value unfit = refl
+      by-value floatText = refl
+
+  -- a scalar
+  pub integer-cells : (k : ℕ) → scalarElement E (Kinds.integer k) ≡ cellElement (E .sheet) F (C.Integer k) k
+  unfolding scalarElement cellElement cellBytes Kinds.scalarBytes
+  integer-cells k = refl
+
+  pub single-cells : scalarElement E Kinds.single ≡ cellElement (E .sheet) F C.Single 4
+  unfolding scalarElement cellElement cellBytes Kinds.scalarBytes
+  single-cells = refl
+
+  pub vector-cells : (n : ℕ) → scalarElement E (Kinds.vector n) ≡ cellElement (E .sheet) F (C.Vector n) (scalarStride (Kinds.vector n))
+  unfolding scalarElement cellElement cellBytes Kinds.scalarBytes
+  vector-cells n = refl
+
+  -- texts, by their subtype
+  module _ (d : StructDef) (e x : Defs.Member) (rs : List ℕ) where
+    pub text-zero : (len : ℕ) → x .subtype ≡ 0 → len ≡ high16 (x .reference) → len ≡ 0 → textRun E d e x rs ≡ stops d e 10 0
+    unfolding textRun fixedRun ifM
+    text-zero len h l z = rw (eq-eqb (x .subtype) 0 h, eq-eqb (high16 (x .reference)) 0 (sym l ∙ z)) refl
+
+    pub text-cells : (len : ℕ) → x .subtype ≡ 0 → len ≡ high16 (x .reference) → (len ≡ 0 → ⊥) → textRun E d e x rs ≡ run E len 1 (cellElement (E .sheet) F (C.Fixed len) len) rs
+    unfolding textRun fixedRun ifM
+    text-cells len h l z =
+        rw (eq-eqb (x .subtype) 0 h, ← l, ne-eqb len 0 z) (ap (λ f. run E len 1 f rs) (fixed-cells len))
+
+    pub text-pointers : (x .subtype ≡ 0 → ⊥) → x .subtype < 4 → textRun E d e x rs ≡ run E (slotSize (x .subtype)) (slotBlock (x .subtype)) (textElement E (x .subtype)) rs
+    unfolding textRun ifM
+    text-pointers h l = rw (ne-eqb (x .subtype) 0 h, le-leb 1 (x .subtype) (omega (arith, h)), le-leb (x .subtype) 3 (omega (arith, l))) refl
+
+    pub text-hashes : 7 ≤ x .subtype → x .subtype < 9 → textRun E d e x rs ≡ run E 4 6 (cellElement (E .sheet) F C.Hash 4) rs
+    unfolding textRun ifM
+    text-hashes h l = by-seven (eqb (x .subtype) 7) refl
+      where
+        by-seven : (b : Bool) → eqb (x .subtype) 7 ≡ b → textRun E d e x rs ≡ run E 4 6 (cellElement (E .sheet) F C.Hash 4) rs
+        by-seven true g = let q : x .subtype ≡ 7 = eqb-true (x .subtype) 7 g in rw q (ap (λ f. run E 4 6 f rs) hash-cells)
+        by-seven false g =
+            let n = eqb-false (x .subtype) 7 g in
+            let q : x .subtype ≡ 8 = omega (arith, h, l, n) in
+            rw q (ap (λ f. run E 4 6 f rs) hash-cells)
+
+    pub text-stops : {A B : Type 0} → 4 ≤ x .subtype → (A → x .subtype < 7) → (B → 9 ≤ x .subtype) → A ⊎ B → textRun E d e x rs ≡ stops d e 11 (x .subtype)
+    unfolding textRun ifM
+    text-stops {A} {B} h f g l =
+        let z : x .subtype ≡ 0 → ⊥ = λ (q : x .subtype ≡ 0). omega (arith, h, q) in
+        rw (ne-eqb (x .subtype) 0 z, le-leb 1 (x .subtype) (omega (arith, h)), lt-leb (x .subtype) 3 (omega (arith, h)), ne-eqb (x .subtype) 7 (seven l), ne-eqb (x .subtype) 8 (eight l)) refl
+      where
+        seven : A ⊎ B → x .subtype ≡ 7 → ⊥
+        seven (inl a) q = omega (arith, f a, q)
+        seven (inr b) q = omega (arith, g b, q)
+        eight : A ⊎ B → x .subtype ≡ 8 → ⊥
+        eight (inl a) q = omega (arith, f a, q)
+        eight (inr b) q = omega (arith, g b, q)
+
+-- an enum's run
+
+enum-none : (E : Env) (F : Bytes) (h : ℕ) (rs : List ℕ) → E .defs .enum h ≡ none → enumRun E h rs ≡ run E 4 5 (cellElement (E .sheet) F (C.Enum 0 0 4) 4) rs
+unfolding enumRun useEnumOf ifM bind after ret entriesAt
+enum-none E F h rs e = fun-ext λ s. rw (e, enum-cells E F h 0 0 (rw e refl)) refl
+
+enum-some : (E : Env) (F : Bytes) (h from n : ℕ) (rs : List ℕ) (x : Defs.EnumDef) (s : State) → E .defs .enum h ≡ some x → x .entries ≡ entriesAt F n from
+    → enumRun E h rs s ≡ run E 4 5 (cellElement (E .sheet) F (C.Enum from n 4) 4) rs (usedIn h s)
+unfolding enumRun useEnumOf ifM bind after useEnum logEnum onCore settle useEnumC
+enum-some E F h from n rs x s e l = rw (e, enum-cells E F h from n (rw e l)) refl
+
+here : (F : Bytes) (h at count : ℕ) → count ≡ readAt 3 F (at + 1) → enumHere F h at .entries ≡ entriesAt F count (at + 4)
+unfolding enumHere
+here F h at count g = ap (λ (j : ℕ). entriesAt F j (at + 4)) (sym g)
+
+module _ (R : Round) (n : ℕ) (p : Progress) (w T F : Bytes) (h : ℕ) (rs : List ℕ) (f : Found) (is : (S : Schema) → schemaOf F ≡ ok S → winning S .enum h ≡ enumFound F h f) where
+  abbrev Enums : Ran → Bytes → Type 0
+  Enums r v = Yields (λ S. schemaOf F ≡ ok S) R n p w 0 (λ S. enumRun (envOf T S R) h rs) r v
+
+  -- no enum has the name
+  pub enums-none : (r : Ran) (w' : Bytes) → f ≡ Nothing → Yields anySchema R n p w 0 (λ S. run (envOf T S R) 4 5 (cellElement T F (C.Enum 0 0 4) 4) rs) r w' → Enums r w'
+  enums-none r w' e a =
+      yields-as R n p w (λ S. schemaOf F ≡ ok S) anySchema 0 0 (λ S. enumRun (envOf T S R) h rs) (λ S. run (envOf T S R) 4 5 (cellElement T F (C.Enum 0 0 4) 4) rs) r w' (omega arith)
+      (λ S k. (tt, enum-none (envOf T S R) F h rs (is S k ∙ ap (enumFound F h) e))) a
+
+  -- one has, and is used
+  pub enums-some : (at from count : ℕ) (q : Progress) (v : Bytes) (k : ℕ) (r : Ran) (w' : Bytes) → Safe R n p → f ≡ At at → count ≡ readAt 3 F (at + 1) → entriesAt F count from ≡ entriesAt F count (at + 4)
+      → Marks R n p w (λ S. isSome (winning S .enum h)) (usedIn h) q v → k ≡ n → Yields anySchema R k q v 0 (λ S. run (envOf T S R) 4 5 (cellElement T F (C.Enum from count 4) 4) rs) r w' → Enums r w'
+  enums-some at from count q v k r w' o e g l t u a =
+      record {
+        grew = grew-then r (rw (← u) (a .grew));
+        says =
+            λ S z s σ y.
+            let m : winning S .enum h ≡ some (enumHere F h at) = is S z ∙ ap (enumFound F h) e in
+            rw (enum-some (envOf T S R) F h from count rs (enumHere F h at) s m (here F h at count g ∙ sym l))
+            (rw (← u) (a .says S tt (usedIn h s) σ (rw u (t .says S s σ (rw m refl) y))));
+      }
+    where
+      grew-then : (r : Ran) → Grew R n q 0 r → Grew R n p 0 r
+      grew-then (Rn.Kept b x) y =
+          let z = y .2 in
+          (y .0, omega (arith, y .1, t .top), record {
+            more = omega (arith, z .more, t .end);
+            paid = omega (arith, z .paid, t .end, t .charge, t .top);
+            top = omega (arith, z .top, t .top);
+            met = omega (arith, z .met, t .seen, t .charge);
+          })
+      grew-then (Rn.Dropped x) y =
+          let z = y .1 in
+          (y .0, record { more = omega (arith, z .more, t .end); paid = omega (arith, z .paid, t .end, t .charge); top = omega (arith, z .top, t .top); met = omega (arith, z .met, t .seen, t .charge) })
+      grew-then (Rn.Refused b x) y = y

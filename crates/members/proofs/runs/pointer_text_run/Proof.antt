@@ -9,8 +9,9 @@ use Rattle.layout.specs.Members.{slotSize}
 use Rattle.layout.specs.Runs.{textElement}
 use Rattle.area.specs.Area.{envOf}
 use Rattle.members.specs.Posts.{anySchema, slotBlock}
+use Rattle.members.proofs.Choosing.{text-short}
 use Rattle.members.proofs.Loops.{Ready, Paid, runCost, paid-done, ready, length-rowsFrom, run-begin, run-kept, run-too-dear}
-use Rattle.members.proofs.CellRuns.{Texts, text-short, texts-room, texts-turn, texts-stopped}
+use Rattle.members.proofs.CellRuns.{Texts, texts-room, texts-turn, texts-stopped}
 use Rattle.members.proofs.runs.pointer_text_run.Statement.{statement}
 use Rattle.members.proofs.runs.pointer_text_run.Tie as tie
 
@@ -73,7 +74,7 @@ text-slot-requires c κs =
     let d = paid-done (a .round) (a .p) (runCost (slotSize (a .sub)) (a .n)) (c .before .before .before .before .before .before .before .before .before .run-cost .result) (c .before .before .before .before .before .before .before .before .pay .result) (c .before .before .before .before .before .before .s .given .0 .0) (c .before .before .before .before .before .before .before .before .before .run-cost .ensures ∙ ap (λ (x : ℕ). 16 + x * a .n) (c .before .before .before .before .before .before .before .before .before .before .slot-size .ensures .0)) (c .before .before .before .before .before .before .before .before .pay .ensures) (c .before .before .before .before .before .before .s .given .1) in
     let r = ready (slotSize (a .sub)) (a .n) (s .pre) d in
     let h = texts-room (a .round) (length (a .work .now)) (c .before .before .before .before .before .before .s .given .0 .0) (a .work .now) (a .sheet .now) (a .sub) (a .first) (a .n) (l .q) (l .work) (l .i) r (l .inv .2 r) (c .before .before .before .loop-test .taken) (c .before .before .before .before .before .before .before .before .before .before .slot-size .result) (c .before .before .before .before .before .before .before .before .before .before .slot-size .ensures .0) in
-    (rw (l .inv .1) h, (omega (arith, l .inv .2 r .safe .low), omega (arith, c .before .before .before .before .before .before .before .before .before .before .slot-size .ensures .0), text-short (a .sheet .now) (c .before .before .read-row .result) (c .str-of .result .now) (c .str-of .ensures) (omega (arith, c .before .before .read-row .ok))))
+    (rw (l .inv .1) h, (omega (arith, l .inv .2 r .safe .low), omega (arith, c .before .before .before .before .before .before .before .before .before .before .slot-size .ensures .0), text-short (a .sheet .now) (c .before .before .read-row .result) (c .str-of .result .now) (omega (arith, c .before .before .read-row .ok)) (c .str-of .ensures)))
 
 enum-known-k-2 : tie.Need-enum-known-k-2 Inv-loop μ-loop
 enum-known-k-2 c = search needs
