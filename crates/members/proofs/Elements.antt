@@ -2,7 +2,7 @@
 use mathlib.Core.Path.{_≡_, refl, sym, ap, subst, fun-ext, _∙_}
 use mathlib.Core.List.{List, _++_, append-nil}
 use mathlib.Core.Logic.{_⊎_, inl, inr}
-use mathlib.Core.Bool.{Bool, true, false}
+use mathlib.Core.Bool.{Bool, true, false, cond, false≢true}
 use mathlib.Core.Option.{Option, none, some}
 use Prim.Native.Nat.{ℕ, _+_, _-_, _*_, _≤_, _<_}
 use native.Mathlib.Omega.{arith}
@@ -25,7 +25,7 @@ use Rattle.schema.specs.declared.members.Member as coded
 use Rattle.layout.specs.State.{State, Env, M, done, stop, after, bind, ret, ifM, fitM, fail, remark, withRemark, useEnum, logEnum, onCore, settle, useEnumC}
 use Rattle.layout.specs.Kinds
 use Rattle.layout.specs.Members.{says, high16, slotSize, entriesOf, useEnumOf}
-use Rattle.layout.specs.Runs.{Run, stops, run, textRun, fixedRun, enumRun, fixedElement, hashElement, enumElement, textElement, scalarElement, scalarStride}
+use Rattle.layout.specs.Runs.{Run, stops, run, textRun, fixedRun, enumRun, fixedElement, hashElement, enumElement, textElement, scalarElement, scalarStride, scalarBlock}
 use Rattle.area.specs.declared.Round.{Round}
 use Rattle.area.specs.declared.Progress.{Progress}
 use Rattle.area.specs.Area.{usedIn, envOf}
@@ -38,7 +38,8 @@ use Rattle.members.specs.declared.Ran.{Ran}
 use Rattle.members.specs.declared.Ran.the-variants as Rn
 use Rattle.members.specs.Names.{defOf, memberOf}
 use Rattle.members.specs.Cells.{cellBytes, cellElement}
-use Rattle.members.specs.Posts.{remarkOn, Grew, Yields, anySchema, slotBlock}
+use Rattle.members.specs.Posts.{remarkOn, Grew, Yields, anySchema, slotBlock, plainRun}
+use Rattle.members.proofs.Choosing.{scalarCell}
 use Rattle.members.proofs.Filling.{went-noted, went-marked}
 
 -- a remark stops a run
@@ -52,6 +53,14 @@ module _ (R : Round) (n : ℕ) (p : Progress) (w : Bytes) where
   run-said d m kind detail q w' h o t F = record {
     grew = went-noted R n p w (remarkOn d m kind detail) q w' h o t;
     says = λ S k s σ r. rw (stops-is F d m kind detail s) (rw (append-nil σ) (t .says S s σ r), refl);
+  }
+
+  -- nothing is done
+  nothing-run : Safe R n p → Yields anySchema R n p w 0 (λ S. ret none) (Rn.Dropped p) w
+  unfolding ret
+  nothing-run h = record {
+    grew = (h, record { more = omega arith; paid = omega arith; top = omega arith; met = omega arith });
+    says = λ S k s σ r. (rw (append-nil σ) r, refl);
   }
 
   -- fewer remarks than there may be
@@ -100,35 +109,22 @@ module _ (E : Env) (F : Bytes) where
       by-value unfit = refl
       by-value floatText = refl
 
-  -- a scalar
-  pub integer-cells : (k : ℕ) → scalarElement E (Kinds.integer k) ≡ cellElement (E .sheet) F (C.Integer k) k
-  unfolding scalarElement cellElement cellBytes Kinds.scalarBytes
-  integer-cells k = refl
-
-  pub single-cells : scalarElement E Kinds.single ≡ cellElement (E .sheet) F C.Single 4
-  unfolding scalarElement cellElement cellBytes Kinds.scalarBytes
-  single-cells = refl
-
-  pub vector-cells : (n : ℕ) → scalarElement E (Kinds.vector n) ≡ cellElement (E .sheet) F (C.Vector n) (scalarStride (Kinds.vector n))
-  unfolding scalarElement cellElement cellBytes Kinds.scalarBytes
-  vector-cells n = refl
-
   -- texts, by their subtype
   module _ (d : StructDef) (e x : Defs.Member) (rs : List ℕ) where
-    pub text-zero : (len : ℕ) → x .subtype ≡ 0 → len ≡ high16 (x .reference) → len ≡ 0 → textRun E d e x rs ≡ stops d e 10 0
+    text-zero : (len : ℕ) → x .subtype ≡ 0 → len ≡ high16 (x .reference) → len ≡ 0 → textRun E d e x rs ≡ stops d e 10 0
     unfolding textRun fixedRun ifM
     text-zero len h l z = rw (eq-eqb (x .subtype) 0 h, eq-eqb (high16 (x .reference)) 0 (sym l ∙ z)) refl
 
-    pub text-cells : (len : ℕ) → x .subtype ≡ 0 → len ≡ high16 (x .reference) → (len ≡ 0 → ⊥) → textRun E d e x rs ≡ run E len 1 (cellElement (E .sheet) F (C.Fixed len) len) rs
+    text-cells : (len : ℕ) → x .subtype ≡ 0 → len ≡ high16 (x .reference) → (len ≡ 0 → ⊥) → textRun E d e x rs ≡ run E len 1 (cellElement (E .sheet) F (C.Fixed len) len) rs
     unfolding textRun fixedRun ifM
     text-cells len h l z =
         rw (eq-eqb (x .subtype) 0 h, ← l, ne-eqb len 0 z) (ap (λ f. run E len 1 f rs) (fixed-cells len))
 
-    pub text-pointers : (x .subtype ≡ 0 → ⊥) → x .subtype < 4 → textRun E d e x rs ≡ run E (slotSize (x .subtype)) (slotBlock (x .subtype)) (textElement E (x .subtype)) rs
+    text-pointers : (x .subtype ≡ 0 → ⊥) → x .subtype < 4 → textRun E d e x rs ≡ run E (slotSize (x .subtype)) (slotBlock (x .subtype)) (textElement E (x .subtype)) rs
     unfolding textRun ifM
     text-pointers h l = rw (ne-eqb (x .subtype) 0 h, le-leb 1 (x .subtype) (omega (arith, h)), le-leb (x .subtype) 3 (omega (arith, l))) refl
 
-    pub text-hashes : 7 ≤ x .subtype → x .subtype < 9 → textRun E d e x rs ≡ run E 4 6 (cellElement (E .sheet) F C.Hash 4) rs
+    text-hashes : 7 ≤ x .subtype → x .subtype < 9 → textRun E d e x rs ≡ run E 4 6 (cellElement (E .sheet) F C.Hash 4) rs
     unfolding textRun ifM
     text-hashes h l = by-seven (eqb (x .subtype) 7) refl
       where
@@ -139,7 +135,7 @@ module _ (E : Env) (F : Bytes) where
             let q : x .subtype ≡ 8 = omega (arith, h, l, n) in
             rw q (ap (λ f. run E 4 6 f rs) hash-cells)
 
-    pub text-stops : {A B : Type 0} → 4 ≤ x .subtype → (A → x .subtype < 7) → (B → 9 ≤ x .subtype) → A ⊎ B → textRun E d e x rs ≡ stops d e 11 (x .subtype)
+    text-stops : {A B : Type 0} → 4 ≤ x .subtype → (A → x .subtype < 7) → (B → 9 ≤ x .subtype) → A ⊎ B → textRun E d e x rs ≡ stops d e 11 (x .subtype)
     unfolding textRun ifM
     text-stops {A} {B} h f g l =
         let z : x .subtype ≡ 0 → ⊥ = λ (q : x .subtype ≡ 0). omega (arith, h, q) in
@@ -203,3 +199,125 @@ module _ (R : Round) (n : ℕ) (p : Progress) (w T F : Bytes) (h : ℕ) (rs : Li
           let z = y .1 in
           (y .0, record { more = omega (arith, z .more, t .end); paid = omega (arith, z .paid, t .end, t .charge); top = omega (arith, z .top, t .top); met = omega (arith, z .met, t .seen, t .charge) })
       grew-then (Rn.Refused b x) y = y
+
+-- runs by their elements' kind
+
+scalar-cells : (E : Env) (F : Bytes) (s : Kinds.Scalar) → scalarElement E s ≡ cellElement (E .sheet) F (scalarCell s) (scalarStride s)
+unfolding scalarElement cellElement cellBytes Kinds.scalarBytes
+scalar-cells E F (Kinds.integer k) = refl
+scalar-cells E F Kinds.single = refl
+scalar-cells E F (Kinds.vector n) = refl
+
+-- kinds that are no elements
+abbrev isStrange : Kinds.Kind → Bool
+isStrange (Kinds.scalar s) = false
+isStrange Kinds.text = false
+isStrange Kinds.structure = false
+isStrange Kinds.array = true
+isStrange Kinds.enumeration = false
+isStrange Kinds.flags = true
+isStrange Kinds.map = true
+isStrange Kinds.other = true
+
+module _ (E : Env) (d : StructDef) (e x : Defs.Member) (rs : List ℕ) where
+  scalar-run : (F : Bytes) (s : Kinds.Scalar) → plainRun E d e x (Kinds.scalar s) rs ≡ run E (scalarStride s) (scalarBlock s (x .type)) (cellElement (E .sheet) F (scalarCell s) (scalarStride s)) rs
+  unfolding plainRun
+  scalar-run F s = ap (λ f. run E (scalarStride s) (scalarBlock s (x .type)) f rs) (scalar-cells E F s)
+
+  text-run : plainRun E d e x Kinds.text rs ≡ textRun E d e x rs
+  unfolding plainRun
+  text-run = refl
+
+  enum-run : plainRun E d e x Kinds.enumeration rs ≡ enumRun E (x .reference) rs
+  unfolding plainRun
+  enum-run = refl
+
+  structure-run : plainRun E d e x Kinds.structure rs ≡ ret none
+  unfolding plainRun
+  structure-run = refl
+
+  strange-run : (k : Kinds.Kind) → isStrange k ≡ true → plainRun E d e x k rs ≡ stops d e 12 (x .type)
+  unfolding plainRun
+  strange-run (Kinds.scalar s) h = absurd (false≢true h)
+  strange-run Kinds.text h = absurd (false≢true h)
+  strange-run Kinds.structure h = absurd (false≢true h)
+  strange-run Kinds.array h = refl
+  strange-run Kinds.enumeration h = absurd (false≢true h)
+  strange-run Kinds.flags h = refl
+  strange-run Kinds.map h = refl
+  strange-run Kinds.other h = refl
+
+module _ (R : Round) (n : ℕ) (p : Progress) (w T F : Bytes) (d : Def) (m x : coded.Member) (rs : List ℕ) where
+  abbrev Plain : Ran → Bytes → Type 0
+  Plain r v = Yields (λ S. schemaOf F ≡ ok S) R n p w 1 (λ S. plainRun (envOf T S R) (defOf F d) (memberOf m) (memberOf x) (Kinds.kindOf (x .kind)) rs) r v
+
+  -- by a kind of which the run is known
+  plain-as : (less : Schema → Type 0) (j : ℕ) (k : Kinds.Kind) (g : Schema → M (Option Run)) (r : Ran) (w' : Bytes) → j ≤ 1 → Kinds.kindOf (x .kind) ≡ k
+      → ((S : Schema) → schemaOf F ≡ ok S → less S × (plainRun (envOf T S R) (defOf F d) (memberOf m) (memberOf x) k rs ≡ g S)) → Yields less R n p w j g r w' → Plain r w'
+  plain-as less j k g r w' l e i a =
+      rw e (yields-as R n p w (λ S. schemaOf F ≡ ok S) less j 1 (λ S. plainRun (envOf T S R) (defOf F d) (memberOf m) (memberOf x) k rs) g r w' l i a)
+
+  pub plain-scalar : (s : Kinds.Scalar) (stride block : ℕ) (r : Ran) (w' : Bytes) → Kinds.kindOf (x .kind) ≡ Kinds.scalar s → stride ≡ scalarStride s → block ≡ scalarBlock s (x .kind)
+      → Yields anySchema R n p w 0 (λ S. run (envOf T S R) stride block (cellElement T F (scalarCell s) stride) rs) r w' → Plain r w'
+  plain-scalar s stride block r w' k e b a =
+      plain-as anySchema 0 (Kinds.scalar s) (λ S. run (envOf T S R) stride block (cellElement T F (scalarCell s) stride) rs) r w' (omega arith) k
+      (λ S z. (tt, rw (e, b) (scalar-run (envOf T S R) (defOf F d) (memberOf m) (memberOf x) rs F s))) a
+
+  pub plain-text : (r : Ran) (w' : Bytes) → Kinds.kindOf (x .kind) ≡ Kinds.text → Yields anySchema R n p w 1 (λ S. textRun (envOf T S R) (defOf F d) (memberOf m) (memberOf x) rs) r w' → Plain r w'
+  plain-text r w' k a =
+      plain-as anySchema 1 Kinds.text (λ S. textRun (envOf T S R) (defOf F d) (memberOf m) (memberOf x) rs) r w' (omega arith) k
+      (λ S z. (tt, text-run (envOf T S R) (defOf F d) (memberOf m) (memberOf x) rs)) a
+
+  pub plain-enum : (r : Ran) (w' : Bytes) → Kinds.kindOf (x .kind) ≡ Kinds.enumeration → Yields (λ S. schemaOf F ≡ ok S) R n p w 0 (λ S. enumRun (envOf T S R) (x .reference) rs) r w' → Plain r w'
+  plain-enum r w' k a =
+      plain-as (λ S. schemaOf F ≡ ok S) 0 Kinds.enumeration (λ S. enumRun (envOf T S R) (x .reference) rs) r w' (omega arith) k
+      (λ S z. (z, enum-run (envOf T S R) (defOf F d) (memberOf m) (memberOf x) rs)) a
+
+  pub plain-structure : Safe R n p → Kinds.kindOf (x .kind) ≡ Kinds.structure → Plain (Rn.Dropped p) w
+  plain-structure h k =
+      plain-as anySchema 0 Kinds.structure (λ S. ret none) (Rn.Dropped p) w (omega arith) k (λ S z. (tt, structure-run (envOf T S R) (defOf F d) (memberOf m) (memberOf x) rs))
+      (nothing-run R n p w h)
+
+  pub plain-strange : (k : Kinds.Kind) (r : Ran) (w' : Bytes) → Kinds.kindOf (x .kind) ≡ k → isStrange k ≡ true → Yields anySchema R n p w 1 (λ S. stops (defOf F d) (memberOf m) 12 (x .kind)) r w' → Plain r w'
+  plain-strange k r w' e h a =
+      plain-as anySchema 1 k (λ S. stops (defOf F d) (memberOf m) 12 (x .kind)) r w' (omega arith) e (λ S z. (tt, strange-run (envOf T S R) (defOf F d) (memberOf m) (memberOf x) rs k h)) a
+
+  -- texts, by their subtype
+  abbrev TextRuns : Ran → Bytes → Type 0
+  TextRuns r v = Yields anySchema R n p w 1 (λ S. textRun (envOf T S R) (defOf F d) (memberOf m) (memberOf x) rs) r v
+
+  texts-as : (j : ℕ) (g : Schema → M (Option Run)) (r : Ran) (w' : Bytes) → j ≤ 1 → ((S : Schema) → textRun (envOf T S R) (defOf F d) (memberOf m) (memberOf x) rs ≡ g S)
+      → Yields anySchema R n p w j g r w' → TextRuns r w'
+  texts-as j g r w' l e a = yields-as R n p w anySchema anySchema j 1 (λ S. textRun (envOf T S R) (defOf F d) (memberOf m) (memberOf x) rs) g r w' l (λ S z. (tt, e S)) a
+
+  pub texts-zero : (len : ℕ) (r : Ran) (w' : Bytes) → x .subtype ≡ 0 → len ≡ high16 (x .reference) → len ≡ 0 → Yields anySchema R n p w 1 (λ S. stops (defOf F d) (memberOf m) 10 0) r w' → TextRuns r w'
+  texts-zero len r w' h l z a =
+      texts-as 1 (λ S. stops (defOf F d) (memberOf m) 10 0) r w' (omega arith) (λ S. text-zero (envOf T S R) F (defOf F d) (memberOf m) (memberOf x) rs len h l z) a
+
+  pub texts-fixed : (len : ℕ) (r : Ran) (w' : Bytes) → x .subtype ≡ 0 → len ≡ high16 (x .reference) → (len ≡ 0 → ⊥)
+      → Yields anySchema R n p w 0 (λ S. run (envOf T S R) len 1 (cellElement T F (C.Fixed len) len) rs) r w' → TextRuns r w'
+  texts-fixed len r w' h l z a =
+      texts-as 0 (λ S. run (envOf T S R) len 1 (cellElement T F (C.Fixed len) len) rs) r w' (omega arith) (λ S. text-cells (envOf T S R) F (defOf F d) (memberOf m) (memberOf x) rs len h l z) a
+
+  pub texts-pointed : (r : Ran) (w' : Bytes) → (x .subtype ≡ 0 → ⊥) → x .subtype < 4
+      → Yields anySchema R n p w 0 (λ S. run (envOf T S R) (slotSize (x .subtype)) (slotBlock (x .subtype)) (textElement (envOf T S R) (x .subtype)) rs) r w' → TextRuns r w'
+  texts-pointed r w' h l a =
+      texts-as 0 (λ S. run (envOf T S R) (slotSize (x .subtype)) (slotBlock (x .subtype)) (textElement (envOf T S R) (x .subtype)) rs) r w' (omega arith)
+      (λ S. text-pointers (envOf T S R) F (defOf F d) (memberOf m) (memberOf x) rs h l) a
+
+  pub texts-hashed : (r : Ran) (w' : Bytes) → 7 ≤ x .subtype → x .subtype < 9 → Yields anySchema R n p w 0 (λ S. run (envOf T S R) 4 6 (cellElement T F C.Hash 4) rs) r w' → TextRuns r w'
+  texts-hashed r w' h l a =
+      texts-as 0 (λ S. run (envOf T S R) 4 6 (cellElement T F C.Hash 4) rs) r w' (omega arith) (λ S. text-hashes (envOf T S R) F (defOf F d) (memberOf m) (memberOf x) rs h l) a
+
+  pub texts-strange : {A B : Type 0} (r : Ran) (w' : Bytes) → 4 ≤ x .subtype → (A → x .subtype < 7) → (B → 9 ≤ x .subtype) → A ⊎ B
+      → Yields anySchema R n p w 1 (λ S. stops (defOf F d) (memberOf m) 11 (x .subtype)) r w' → TextRuns r w'
+  texts-strange r w' h f g l a =
+      texts-as 1 (λ S. stops (defOf F d) (memberOf m) 11 (x .subtype)) r w' (omega arith) (λ S. text-stops (envOf T S R) F (defOf F d) (memberOf m) (memberOf x) rs h f g l) a
+
+-- there is room for a vector's numbers in its element
+pub vector-room : (n r : ℕ) → n ≤ 4 → r ≡ scalarStride (Kinds.vector n) → 4 * n ≤ r
+vector-room n r h e = by-two (eqb n 2) refl e
+  where
+    by-two : (b : Bool) → eqb n 2 ≡ b → r ≡ cond b 8 16 → 4 * n ≤ r
+    by-two true g i = omega (arith, eqb-true n 2 g, i)
+    by-two false g i = omega (arith, h, i)

@@ -1,247 +1,103 @@
+-- `members::runs::plain_element_run` meets its contract. Assumes nothing.
+use mathlib.Core.Path.{refl, sym, ap, _∙_}
+use native.Mathlib.Omega.{arith}
+use lib.ListN.{length}
 use borrow.Author.Needs.{needs}
+use Rattle.value.specs.Rows.{rowsFrom}
+use Rattle.layout.specs.Kinds
+use Rattle.members.specs.Names.{kindIs}
+use Rattle.members.proofs.Kinding.{integer-few, vector-few}
+use Rattle.members.proofs.Elements.{vector-room, plain-scalar, plain-text, plain-enum, plain-structure, plain-strange}
 use Rattle.members.proofs.runs.plain_element_run.Statement.{statement}
 use Rattle.members.proofs.runs.plain_element_run.Tie as tie
-use Rattle.members.proofs.runs.plain_element_run.Reads as reads
-use Rattle.members.proofs.runs.plain_element_run.Lts as lts
-use Rattle.members.proofs.kinds.kind_of.Reads as kind-of-reads
-use Rattle.members.proofs.runs.cell_run.Reads as cell-run-reads
-use Rattle.members.proofs.runs.enum_run.Reads as enum-run-reads
-use Rattle.members.proofs.runs.integer_block.Reads as integer-block-reads
-use Rattle.members.proofs.runs.stop_run.Reads as stop-run-reads
-use Rattle.members.proofs.runs.text_run.Reads as text-run-reads
-use Rattle.members.proofs.runs.vector_stride.Reads as vector-stride-reads
-
--- src/runs.rt:295:11
-kind-of-requires : tie.Need-kind-of-requires
-kind-of-requires c κs = search needs
-
--- src/runs.rt:296:23
-enum-known-k : tie.Need-enum-known-k
-enum-known-k c = search needs
-
--- src/runs.rt:303:13
-cast-cell-run : tie.Need-cast-cell-run
-cast-cell-run c = ?
-
--- src/runs.rt:304:13
-integer-block-requires : tie.Need-integer-block-requires
-integer-block-requires c κs = search needs
-
--- src/runs.rt:296:29
-cell-run-requires : tie.Need-cell-run-requires
-cell-run-requires c κs = ?
-
--- src/runs.rt:308:49
-enum-told : tie.Need-enum-told
-enum-told c = search needs
-
--- src/runs.rt:308:25
-cell-run-requires-2 : tie.Need-cell-run-requires-2
-cell-run-requires-2 c κs = search needs
-
--- src/runs.rt:309:22
-enum-known-k-2 : tie.Need-enum-known-k-2
-enum-known-k-2 c = search needs
-
--- src/runs.rt:316:13
-vector-stride-requires : tie.Need-vector-stride-requires
-vector-stride-requires c κs = search needs
-
--- src/runs.rt:309:28
-cell-run-requires-3 : tie.Need-cell-run-requires-3
-cell-run-requires-3 c κs = ?
-
--- src/runs.rt:321:47
-enum-told-2 : tie.Need-enum-told-2
-enum-told-2 c = search needs
-
--- src/runs.rt:321:23
-text-run-requires : tie.Need-text-run-requires
-text-run-requires c κs = search needs
-
--- src/runs.rt:322:54
-enum-told-3 : tie.Need-enum-told-3
-enum-told-3 c = search needs
-
--- src/runs.rt:322:30
-enum-run-requires : tie.Need-enum-run-requires
-enum-run-requires c κs = search needs
-
--- src/runs.rt:323:28
-enum-told-4 : tie.Need-enum-told-4
-enum-told-4 c = search needs
-
--- src/runs.rt:324:33
-enum-told-5 : tie.Need-enum-told-5
-enum-told-5 c = search needs
-
--- src/runs.rt:324:59
-cast-stop-run : tie.Need-cast-stop-run
-cast-stop-run c = search needs
-
--- src/runs.rt:324:24
-stop-run-requires : tie.Need-stop-run-requires
-stop-run-requires c κs = search needs
-
--- src/runs.rt:325:33
-enum-told-6 : tie.Need-enum-told-6
-enum-told-6 c = search needs
-
--- src/runs.rt:325:59
-cast-stop-run-2 : tie.Need-cast-stop-run-2
-cast-stop-run-2 c = search needs
-
--- src/runs.rt:325:24
-stop-run-requires-2 : tie.Need-stop-run-requires-2
-stop-run-requires-2 c κs = search needs
-
--- src/runs.rt:326:31
-enum-told-7 : tie.Need-enum-told-7
-enum-told-7 c = search needs
-
--- src/runs.rt:326:57
-cast-stop-run-3 : tie.Need-cast-stop-run-3
-cast-stop-run-3 c = search needs
-
--- src/runs.rt:326:22
-stop-run-requires-3 : tie.Need-stop-run-requires-3
-stop-run-requires-3 c κs = search needs
-
--- src/runs.rt:327:33
-enum-told-8 : tie.Need-enum-told-8
-enum-told-8 c = search needs
-
--- src/runs.rt:327:59
-cast-stop-run-4 : tie.Need-cast-stop-run-4
-cast-stop-run-4 c = search needs
-
--- src/runs.rt:327:24
-stop-run-requires-4 : tie.Need-stop-run-requires-4
-stop-run-requires-4 c κs = search needs
-
--- src/runs.rt:279:1
-same-length : tie.Need-same-length
-same-length c = search needs
-
--- src/runs.rt:279:1
-returns : tie.Need-returns
-returns c = ?
-
--- src/runs.rt:279:1
-same-length-2 : tie.Need-same-length-2
-same-length-2 c = search needs
-
--- src/runs.rt:279:1
-returns-2 : tie.Need-returns-2
-returns-2 c = ?
-
--- src/runs.rt:279:1
-same-length-3 : tie.Need-same-length-3
-same-length-3 c = search needs
-
--- src/runs.rt:279:1
-returns-3 : tie.Need-returns-3
-returns-3 c = ?
-
--- src/runs.rt:279:1
-same-length-4 : tie.Need-same-length-4
-same-length-4 c = search needs
-
--- src/runs.rt:279:1
-returns-4 : tie.Need-returns-4
-returns-4 c = ?
-
--- src/runs.rt:279:1
-same-length-5 : tie.Need-same-length-5
-same-length-5 c = search needs
-
--- src/runs.rt:279:1
-returns-5 : tie.Need-returns-5
-returns-5 c = ?
-
--- src/runs.rt:279:1
-returns-6 : tie.Need-returns-6
-returns-6 c = ?
-
--- src/runs.rt:279:1
-same-length-6 : tie.Need-same-length-6
-same-length-6 c = search needs
-
--- src/runs.rt:279:1
-returns-7 : tie.Need-returns-7
-returns-7 c = ?
-
--- src/runs.rt:279:1
-same-length-7 : tie.Need-same-length-7
-same-length-7 c = search needs
-
--- src/runs.rt:279:1
-returns-8 : tie.Need-returns-8
-returns-8 c = ?
-
--- src/runs.rt:279:1
-same-length-8 : tie.Need-same-length-8
-same-length-8 c = search needs
-
--- src/runs.rt:279:1
-returns-9 : tie.Need-returns-9
-returns-9 c = ?
-
--- src/runs.rt:279:1
-same-length-9 : tie.Need-same-length-9
-same-length-9 c = search needs
-
--- src/runs.rt:279:1
-returns-10 : tie.Need-returns-10
-returns-10 c = ?
 
 pub plain-element-run-spec : {M : Type 1} → statement M
 plain-element-run-spec =
     tie.close
     (tie.spec
-    kind-of-requires
-    enum-known-k
-    cast-cell-run
-    integer-block-requires
-    cell-run-requires
-    enum-told
-    cell-run-requires-2
-    enum-known-k-2
-    vector-stride-requires
-    cell-run-requires-3
-    enum-told-2
-    text-run-requires
-    enum-told-3
-    enum-run-requires
-    enum-told-4
-    enum-told-5
-    cast-stop-run
-    stop-run-requires
-    enum-told-6
-    cast-stop-run-2
-    stop-run-requires-2
-    enum-told-7
-    cast-stop-run-3
-    stop-run-requires-3
-    enum-told-8
-    cast-stop-run-4
-    stop-run-requires-4
-    same-length
-    returns
-    same-length-2
-    returns-2
-    same-length-3
-    returns-3
-    same-length-4
-    returns-4
-    same-length-5
-    returns-5
-    returns-6
-    same-length-6
-    returns-7
-    same-length-7
-    returns-8
-    same-length-8
-    returns-9
-    same-length-9
-    returns-10)
+    (λ c κs. search needs)
+    (λ c. search needs)
+    (λ c.
+    let s = c .before .before .before .before .before .before .before .before in
+    let a = s .args in
+    record { fits = omega (arith, integer-few (a .x .kind) (c .before .before .k .given .0 .0) (c .before .before .before .before .kind-of .result) (c .before .before .before .before .kind-of .ensures) (c .before .before .k .given .1)) })
+    (λ c κs. search needs)
+    (λ c κs.
+    let s = c .before .before .before .before .before .before .before .before .before in
+    let a = s .args in
+    (s .pre .0, (integer-few (a .x .kind) (c .before .before .before .k .given .0 .0) (c .before .before .before .before .before .kind-of .result) (c .before .before .before .before .before .kind-of .ensures) (c .before .before .before .k .given .1), omega arith)))
+    (λ c. search needs)
+    (λ c κs. search needs)
+    (λ c. search needs)
+    (λ c κs. search needs)
+    (λ c κs.
+    let s = c .before .before .before .before .before .before .before .before .before in
+    let a = s .args in
+    let v = vector-few (a .x .kind) (c .before .before .before .k2 .given .0 .0) (c .before .before .before .before .before .kind-of .result) (c .before .before .before .before .before .kind-of .ensures) (c .before .before .before .k2 .given .1) in
+    (s .pre .0, (v, vector-room (c .before .before .before .k2 .given .0 .0) (c .vector-stride .result) (v .1) (c .vector-stride .ensures))))
+    (λ c. search needs)
+    (λ c κs. search needs)
+    (λ c. search needs)
+    (λ c κs. search needs)
+    (λ c. search needs)
+    (λ c. search needs)
+    (λ c. search needs)
+    (λ c κs. search needs)
+    (λ c. search needs)
+    (λ c. search needs)
+    (λ c κs. search needs)
+    (λ c. search needs)
+    (λ c. search needs)
+    (λ c κs. search needs)
+    (λ c. search needs)
+    (λ c. search needs)
+    (λ c κs. search needs)
+    (λ c. search needs)
+    (λ c.
+    let s = c .before .before .before .before .before .before .before .before .before .before .before .before in
+    let a = s .args in
+    plain-scalar (a .round) (length (a .work .now)) (a .p) (a .work .now) (a .sheet .now) (a .schema .now) (a .d) (a .m) (a .x) (rowsFrom (a .first) (a .n)) (Kinds.integer (c .before .before .before .before .before .before .k .given .0 .0)) (c .before .before .before .before .before .before .k .given .0 .0) (c .before .before .before .integer-block .result) (c .before .before .cell-run .result) (c .before .before .cell-run .last .1 .1 .0) (sym (c .before .before .before .before .before .before .before .before .kind-of .ensures) ∙ ap kindIs (c .before .before .before .before .before .before .k .given .1)) refl (c .before .before .before .integer-block .ensures) (c .before .before .cell-run .ensures))
+    (λ c. search needs)
+    (λ c.
+    let s = c .before .before .before .before .before .before .before .before .before .before in
+    let a = s .args in
+    plain-scalar (a .round) (length (a .work .now)) (a .p) (a .work .now) (a .sheet .now) (a .schema .now) (a .d) (a .m) (a .x) (rowsFrom (a .first) (a .n)) Kinds.single 4 7 (c .before .before .cell-run2 .result) (c .before .before .cell-run2 .last .1 .1 .0) (sym (c .before .before .before .before .before .before .kind-of .ensures) ∙ ap kindIs (c .before .before .before .before .enum-told .given .1)) refl refl (c .before .before .cell-run2 .ensures))
+    (λ c. search needs)
+    (λ c.
+    let s = c .before .before .before .before .before .before .before .before .before .before .before .before in
+    let a = s .args in
+    plain-scalar (a .round) (length (a .work .now)) (a .p) (a .work .now) (a .sheet .now) (a .schema .now) (a .d) (a .m) (a .x) (rowsFrom (a .first) (a .n)) (Kinds.vector (c .before .before .before .before .before .before .k2 .given .0 .0)) (c .before .before .before .vector-stride .result) 1 (c .before .before .cell-run3 .result) (c .before .before .cell-run3 .last .1 .1 .0) (sym (c .before .before .before .before .before .before .before .before .kind-of .ensures) ∙ ap kindIs (c .before .before .before .before .before .before .k2 .given .1)) (c .before .before .before .vector-stride .ensures) refl (c .before .before .cell-run3 .ensures))
+    (λ c. search needs)
+    (λ c.
+    let s = c .before .before .before .before .before .before .before .before .before .before in
+    let a = s .args in
+    plain-text (a .round) (length (a .work .now)) (a .p) (a .work .now) (a .sheet .now) (a .schema .now) (a .d) (a .m) (a .x) (rowsFrom (a .first) (a .n)) (c .before .before .text-run .result) (c .before .before .text-run .last .1 .1 .0) (sym (c .before .before .before .before .before .before .kind-of .ensures) ∙ ap kindIs (c .before .before .before .before .enum-told2 .given .1)) (c .before .before .text-run .ensures))
+    (λ c. search needs)
+    (λ c.
+    let s = c .before .before .before .before .before .before .before .before .before .before in
+    let a = s .args in
+    plain-enum (a .round) (length (a .work .now)) (a .p) (a .work .now) (a .sheet .now) (a .schema .now) (a .d) (a .m) (a .x) (rowsFrom (a .first) (a .n)) (c .before .before .enum-run .result) (c .before .before .enum-run .last .1 .1 .0) (sym (c .before .before .before .before .before .before .kind-of .ensures) ∙ ap kindIs (c .before .before .before .before .enum-told3 .given .1)) (c .before .before .enum-run .ensures))
+    (λ c.
+    let s = c .before .before .before .before .before .before in
+    let a = s .args in
+    plain-structure (a .round) (length (a .work .now)) (a .p) (a .work .now) (a .sheet .now) (a .schema .now) (a .d) (a .m) (a .x) (rowsFrom (a .first) (a .n)) (s .pre .0) (sym (c .before .before .kind-of .ensures) ∙ ap kindIs (c .enum-told4 .given .1)))
+    (λ c. search needs)
+    (λ c.
+    let s = c .before .before .before .before .before .before .before .before .before .before .before in
+    let a = s .args in
+    plain-strange (a .round) (length (a .work .now)) (a .p) (a .work .now) (a .sheet .now) (a .schema .now) (a .d) (a .m) (a .x) (rowsFrom (a .first) (a .n)) Kinds.array (c .before .before .stop-run .result) (c .before .before .stop-run .last .0) (sym (c .before .before .before .before .before .before .before .kind-of .ensures) ∙ ap kindIs (c .before .before .before .before .before .enum-told5 .given .1)) refl (c .before .before .stop-run .ensures (a .schema .now)))
+    (λ c. search needs)
+    (λ c.
+    let s = c .before .before .before .before .before .before .before .before .before .before .before in
+    let a = s .args in
+    plain-strange (a .round) (length (a .work .now)) (a .p) (a .work .now) (a .sheet .now) (a .schema .now) (a .d) (a .m) (a .x) (rowsFrom (a .first) (a .n)) Kinds.flags (c .before .before .stop-run2 .result) (c .before .before .stop-run2 .last .0) (sym (c .before .before .before .before .before .before .before .kind-of .ensures) ∙ ap kindIs (c .before .before .before .before .before .enum-told6 .given .1)) refl (c .before .before .stop-run2 .ensures (a .schema .now)))
+    (λ c. search needs)
+    (λ c.
+    let s = c .before .before .before .before .before .before .before .before .before .before .before in
+    let a = s .args in
+    plain-strange (a .round) (length (a .work .now)) (a .p) (a .work .now) (a .sheet .now) (a .schema .now) (a .d) (a .m) (a .x) (rowsFrom (a .first) (a .n)) Kinds.map (c .before .before .stop-run3 .result) (c .before .before .stop-run3 .last .0) (sym (c .before .before .before .before .before .before .before .kind-of .ensures) ∙ ap kindIs (c .before .before .before .before .before .enum-told7 .given .1)) refl (c .before .before .stop-run3 .ensures (a .schema .now)))
+    (λ c. search needs)
+    (λ c.
+    let s = c .before .before .before .before .before .before .before .before .before .before .before in
+    let a = s .args in
+    plain-strange (a .round) (length (a .work .now)) (a .p) (a .work .now) (a .sheet .now) (a .schema .now) (a .d) (a .m) (a .x) (rowsFrom (a .first) (a .n)) Kinds.other (c .before .before .stop-run4 .result) (c .before .before .stop-run4 .last .0) (sym (c .before .before .before .before .before .before .before .kind-of .ensures) ∙ ap kindIs (c .before .before .before .before .before .enum-told8 .given .1)) refl (c .before .before .stop-run4 .ensures (a .schema .now))))
