@@ -8,7 +8,7 @@ use Prim.Native.Nat.{ℕ, zero, suc, _+_, _-_, _*_, _^_, _≤_, _<_}
 use native.Mathlib.Omega.{arith}
 use lib.Dec.{leb, eqb}
 use lib.ListN.{length, take, drop, length-append, drop-of-length-le}
-use borrow.Author.Tests.{leb-true, le-leb, lt-leb, eq-eqb, ne-eqb}
+use borrow.Author.Tests.{leb-true, le-leb, lt-leb, eq-eqb, ne-eqb, eqb-false}
 use Rattle.numbers.specs.Words.{Bytes, bytesOf, over, number, readAt}
 use Rattle.numbers.specs.Result.{ok, isSome, mapOption, orValue}
 use Rattle.value.specs.Rows.{Value, Row, valueRow, textArea, textOf}
@@ -171,6 +171,18 @@ entries-behind F (suc n) x y h g =
 pub place-inside : (F : Bytes) (h at : ℕ) (r : Found) → foundIs r ≡ lastPlace F 1 h → r ≡ At at → at < length F
 place-inside F h at r e f = last-inside F 1 h at (sym e ∙ ap foundIs f)
 
+-- such a cell is in order
+pub named-sane : (flags : Bool) (at n k : ℕ) → at < 2 ^ 63 → n < 2 ^ 24 → k ≤ 4 → Sane (namedCell flags at n k) × (cellSize (namedCell flags at n k) ≡ k)
+named-sane true at n k a b c = ((a, b, c), refl)
+named-sane false at n k a b c = ((a, b, c), refl)
+
+seven-eight : (x : ℕ) → 7 ≤ x → x < 9 → eqb x 7 || eqb x 8 ≡ true
+seven-eight x h g = go (eqb x 7) refl
+  where
+    go : (b : Bool) → eqb x 7 ≡ b → b || eqb x 8 ≡ true
+    go true e = refl
+    go false e = eq-eqb x 8 (let z : x ≡ 7 → ⊥ = eqb-false x 7 e in omega (arith, z))
+
 module _ (R : Round) (n : ℕ) (p : Progress) (w T F : Bytes) (d : Def) (m : coded.Member) (v : Value) where
   abbrev D : StructDef
   D = defOf F d
@@ -245,36 +257,40 @@ module _ (R : Round) (n : ℕ) (p : Progress) (w T F : Bytes) (d : Def) (m : cod
       text-as (plainly 0) (λ S buf. cellMember (envOf T S R) len (cellBytes T F (C.Fixed len)) false 0 D e v buf) r w' (plainly-so 0)
       (λ S buf s. ap (λ (x : M Bytes). x s) (fixed-is S buf h) ∙ rw g (fixed-cell T F S R D e v buf s)) a
 
-  pointed-is : (S : Schema) (buf : Bytes) → 1 ≤ m .subtype → m .subtype ≤ 3 → textMember (envOf T S R) D e v buf ≡ pointerMember (envOf T S R) D e v buf
+  pointed-is : (S : Schema) (buf : Bytes) → (m .subtype ≡ 0 → ⊥) → m .subtype < 4 → textMember (envOf T S R) D e v buf ≡ pointerMember (envOf T S R) D e v buf
   unfolding textMember ifM
-  pointed-is S buf h g = rw (ne-eqb (m .subtype) 0 (λ z. omega (arith, z)), le-leb 1 (m .subtype) h, le-leb (m .subtype) 3 g) refl
+  pointed-is S buf h g = rw (ne-eqb (m .subtype) 0 h, le-leb 1 (m .subtype) (omega (arith, h)), le-leb (m .subtype) 3 (omega arith)) refl
 
-  pub text-pointed : (r : Wrote) (w' : Bytes) → 1 ≤ m .subtype → m .subtype ≤ 3 → Fills anySchema R n p w (d .size) (λ S buf. pointerMember (envOf T S R) D e v buf) r w'
+  pub text-pointed : (r : Wrote) (w' : Bytes) → (m .subtype ≡ 0 → ⊥) → m .subtype < 4 → Fills anySchema R n p w (d .size) (λ S buf. pointerMember (envOf T S R) D e v buf) r w'
       → Fills anySchema R n p w (d .size) (λ S buf. textMember (envOf T S R) D e v buf) r w'
   text-pointed r w' h g a = text-as anySchema (λ S buf. pointerMember (envOf T S R) D e v buf) r w' (λ S. tt) (λ S buf s. ap (λ (x : M Bytes). x s) (pointed-is S buf h g)) a
 
-  hashed-is : (S : Schema) (buf : Bytes) → (m .subtype ≡ 7) ⊎ (m .subtype ≡ 8) → textMember (envOf T S R) D e v buf ≡ hashMember (envOf T S R) D e v buf
+  hashed-is : (S : Schema) (buf : Bytes) → 7 ≤ m .subtype → m .subtype < 9 → textMember (envOf T S R) D e v buf ≡ hashMember (envOf T S R) D e v buf
   unfolding textMember ifM
-  hashed-is S buf (inl h) = rw h refl
-  hashed-is S buf (inr h) = rw h refl
+  hashed-is S buf h g =
+      rw (ne-eqb (m .subtype) 0 (λ z. omega (arith, z)), le-leb 1 (m .subtype) (omega arith), lt-leb (m .subtype) 3 (omega arith), seven-eight (m .subtype) h g) refl
 
-  pub text-hashed : (r : Wrote) (w' : Bytes) → (m .subtype ≡ 7) ⊎ (m .subtype ≡ 8)
+  pub text-hashed : (r : Wrote) (w' : Bytes) → 7 ≤ m .subtype → m .subtype < 9
       → Fills (plainly 0) R n p w (d .size) (λ S buf. cellMember (envOf T S R) 4 (cellBytes T F C.Hash) false 0 D e v buf) r w'
       → Fills anySchema R n p w (d .size) (λ S buf. textMember (envOf T S R) D e v buf) r w'
-  text-hashed r w' h a =
+  text-hashed r w' h g a =
       text-as (plainly 0) (λ S buf. cellMember (envOf T S R) 4 (cellBytes T F C.Hash) false 0 D e v buf) r w' (plainly-so 0)
-      (λ S buf s. ap (λ (x : M Bytes). x s) (hashed-is S buf h) ∙ hash-cell T F S R D e v buf s) a
+      (λ S buf s. ap (λ (x : M Bytes). x s) (hashed-is S buf h g) ∙ hash-cell T F S R D e v buf s) a
 
-  strange-is : (S : Schema) (buf : Bytes) → (m .subtype ≡ 0 → ⊥) → 3 < m .subtype → ((m .subtype ≡ 7) ⊎ (m .subtype ≡ 8) → ⊥)
-      → textMember (envOf T S R) D e v buf ≡ leaves D e 3 (m .subtype) buf
+  strange-is : (S : Schema) (buf : Bytes) → 4 ≤ m .subtype → (m .subtype < 7) ⊎ (9 ≤ m .subtype) → textMember (envOf T S R) D e v buf ≡ leaves D e 3 (m .subtype) buf
   unfolding textMember ifM
-  strange-is S buf h g k =
-      rw (ne-eqb (m .subtype) 0 h, le-leb 1 (m .subtype) (omega arith), lt-leb (m .subtype) 3 g, ne-eqb (m .subtype) 7 (λ z. k (inl z)), ne-eqb (m .subtype) 8 (λ z. k (inr z))) refl
+  strange-is S buf h g =
+      rw (ne-eqb (m .subtype) 0 (λ z. omega (arith, z)), le-leb 1 (m .subtype) (omega arith), lt-leb (m .subtype) 3 (omega arith), ne-eqb (m .subtype) 7 (far 7 (λ l. omega (arith, l)) (λ l. omega (arith, l)) g),
+      ne-eqb (m .subtype) 8 (far 8 (λ l. omega (arith, l)) (λ l. omega (arith, l)) g)) refl
+    where
+      far : (k : ℕ) → (k < 7 → ⊥) → (9 ≤ k → ⊥) → (m .subtype < 7) ⊎ (9 ≤ m .subtype) → m .subtype ≡ k → ⊥
+      far k a b (inl l) z = a (omega (arith, z))
+      far k a b (inr l) z = b (omega (arith, z))
 
-  pub text-strange : (q : Progress) (w' : Bytes) → Safe R n p → Open p → (m .subtype ≡ 0 → ⊥) → 3 < m .subtype → ((m .subtype ≡ 7) ⊎ (m .subtype ≡ 8) → ⊥)
-      → Notes R n p w (remarkOn d m 3 (m .subtype)) q w' → Fills anySchema R n p w (d .size) (λ S buf. textMember (envOf T S R) D e v buf) (Done q) w'
-  text-strange q w' h o a b c t =
-      text-as anySchema (λ S buf. leaves D e 3 (m .subtype) buf) (Done q) w' (λ S. tt) (λ S buf s. ap (λ (x : M Bytes). x s) (strange-is S buf a b c))
+  pub text-strange : (q : Progress) (w' : Bytes) → Safe R n p → Open p → 4 ≤ m .subtype → (m .subtype < 7) ⊎ (9 ≤ m .subtype) → Notes R n p w (remarkOn d m 3 (m .subtype)) q w'
+      → Fills anySchema R n p w (d .size) (λ S buf. textMember (envOf T S R) D e v buf) (Done q) w'
+  text-strange q w' h o a b t =
+      text-as anySchema (λ S buf. leaves D e 3 (m .subtype) buf) (Done q) w' (λ S. tt) (λ S buf s. ap (λ (x : M Bytes). x s) (strange-is S buf a b))
       (said R n p w anySchema (d .size) F d m 3 (m .subtype) q w' h o t)
 
   -- the schema is read from the file

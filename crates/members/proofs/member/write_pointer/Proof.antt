@@ -92,7 +92,7 @@ text-slot-requires : tie.Need-text-slot-requires
 text-slot-requires c κs = let s = c .before .before .before .before .before .before .before .before .before .before .before .before .before .before in
     let a = s .args in
     let y = leb-true (a .m .offset + c .before .before .before .before .before .before .before .before .before .before .slot-size .result) (a .d .size) (sym (c .before .before .before .before .before .before .before .before .before .fits2 .ensures) ∙ not-false (c .before .before .before .before .before .before .before .before .before .fits2 .result) (c .before .before .before .before .before .before .before .before .if1 .left)) in
-    (s .pre .0 .0, omega (arith, s .pre .1), omega (arith, s .pre .1, y, c .before .before .before .before .before .before .before .before .before .before .slot-size .ensures .0), text-short (a .sheet .now) (c .before .before .before .before .before .before .before .value-row .result) (c .str-of .result .now) (omega (arith, c .before .before .before .before .before .before .before .value-row .ok)) (c .str-of .ensures))
+    (s .pre .0 .0, (omega (arith, s .pre .1), omega (arith, s .pre .1, y, c .before .before .before .before .before .before .before .before .before .before .slot-size .ensures .0), text-short (a .sheet .now) (c .before .before .before .before .before .before .before .value-row .result) (c .str-of .result .now) (omega (arith, c .before .before .before .before .before .before .before .value-row .ok)) (c .str-of .ensures)))
 
 -- src/member.rt:176:1
 same-length-3 : tie.Need-same-length-3

@@ -1,3 +1,4 @@
+use mathlib.Core.Logic.{inl, inr, ⊎-elim}
 use native.Mathlib.Omega.{arith}
 use lib.ListN.{length}
 use Rattle.value.specs.Answer.{valueIs}
@@ -58,7 +59,7 @@ same-length-2 c = search needs
 returns-2 : tie.Need-returns-2
 returns-2 c = let s = c .before .before .before .before .before .before .before .before .before in
     let a = s .args in
-    text-pointed (a .round) (length (a .work .now)) (a .p) (a .work .now) (a .sheet .now) (a .schema .now) (a .d) (a .m) (valueIs (a .v)) (c .before .before .write-pointer .result) (c .before .before .write-pointer .last .1 .1 .0) ? ? (c .before .before .write-pointer .ensures)
+    text-pointed (a .round) (length (a .work .now)) (a .p) (a .work .now) (a .sheet .now) (a .schema .now) (a .d) (a .m) (valueIs (a .v)) (c .before .before .write-pointer .result) (c .before .before .write-pointer .last .1 .1 .0) (c .before .before .before .before .before .match .rest .1) (c .before .before .before .before .if1 .taken) (c .before .before .write-pointer .ensures)
 
 -- src/member.rt:210:1
 same-length-3 : tie.Need-same-length-3
@@ -68,7 +69,7 @@ same-length-3 c = search needs
 returns-3 : tie.Need-returns-3
 returns-3 c = let s = c .before .before .before .before .before .before .before .before .before .before .before in
     let a = s .args in
-    text-hashed (a .round) (length (a .work .now)) (a .p) (a .work .now) (a .sheet .now) (a .schema .now) (a .d) (a .m) (valueIs (a .v)) (c .before .before .write-cell2 .result) (c .before .before .write-cell2 .last .1 .1 .0) ? (c .before .before .write-cell2 .ensures)
+    text-hashed (a .round) (length (a .work .now)) (a .p) (a .work .now) (a .sheet .now) (a .schema .now) (a .d) (a .m) (valueIs (a .v)) (c .before .before .write-cell2 .result) (c .before .before .write-cell2 .last .1 .1 .0) (c .before .before .before .before .before .if2 .left) (c .before .before .before .before .if3 .taken) (c .before .before .write-cell2 .ensures)
 
 -- src/member.rt:210:1
 same-length-4 : tie.Need-same-length-4
@@ -78,7 +79,7 @@ same-length-4 c = search needs
 returns-4 : tie.Need-returns-4
 returns-4 c = let s = c .before .before .before .before .before .before .before .before .before .before .before in
     let a = s .args in
-    text-strange (a .round) (length (a .work .now)) (a .p) (a .work .now) (a .sheet .now) (a .schema .now) (a .d) (a .m) (valueIs (a .v)) (c .before .before .say .result) (c .before .before .say .last .0) (s .pre .0 .0) (s .pre .0 .1) ? ? ? (c .before .before .say .ensures)
+    text-strange (a .round) (length (a .work .now)) (a .p) (a .work .now) (a .sheet .now) (a .schema .now) (a .d) (a .m) (valueIs (a .v)) (c .before .before .say .result) (c .before .before .say .last .0) (s .pre .0 .0) (s .pre .0 .1) (c .before .before .before .before .before .before .if1 .left) (⊎-elim (λ t. inl (t .taken)) (λ t. inr (t .1 .left)) (c .before .before .before .before .before .if2 .came)) (c .before .before .say .ensures)
 
 pub write-text-spec : {M : Type 1} → statement M
 write-text-spec =
