@@ -5,3 +5,6 @@ pub mod Looking
 pub mod Filling
 pub mod Slotting
 pub mod Choosing
+pub mod Loops
+pub mod CellRuns
+pub mod Elements

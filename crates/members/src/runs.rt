@@ -7,6 +7,7 @@ use crate::cells::Put;
 use crate::cells::put_cell;
 use crate::kinds::Kind;
 use crate::kinds::kind_of;
+use crate::member::entries_at;
 use crate::member::high_half;
 use crate::member::slot_size;
 use crate::member::text_slot;
@@ -238,6 +239,7 @@ fn enum_run(
         ),
         Found::At(at) => {
             let k = entry_count(schema, at) as usize;
+            let from = entries_at(schema, at);
             let q = use_enum(work, round, p, h);
             cell_run(
                 sheet,
@@ -245,7 +247,7 @@ fn enum_run(
                 work,
                 round,
                 q,
-                Cell::Enum(at + 4, k, 4),
+                Cell::Enum(from, k, 4),
                 4,
                 5,
                 first,
