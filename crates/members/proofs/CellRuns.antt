@@ -100,12 +100,12 @@ module _ (S : Schema) (R : Round) (n : ℕ) (T F : Bytes) (cell : Cell) (stride 
 -- a run of cells
 module _ (R : Round) (n : ℕ) (s : Progress) (w T F : Bytes) (cell : Cell) (stride first m : ℕ) where
   abbrev pub Cells : Progress → Bytes → ℕ → Type 0
-  Cells q v i = Running anySchema R n s w stride (λ S r. cellElement T F cell stride r) (rowsFrom first m) q v i
+  Cells q v i = Running anySchema R n s w stride 0 (λ S r. cellElement T F cell stride r) (rowsFrom first m) q v i
 
   module _ (q : Progress) (v : Bytes) (i : ℕ) (d : Ready R n stride m s) (a : Cells q v i) (less : i < m) where
     pub cells-room : q .top + stride ≤ n
     cells-room =
-        let h = run-room anySchema R n s w stride (λ S r. cellElement T F cell stride r) (rowsFrom first m) d a less in
+        let h = run-room anySchema R n s w stride 0 (λ S r. cellElement T F cell stride r) (rowsFrom first m) d a less in
         omega (arith, h .stack, h .within, h .room)
 
     abbrev len : ℕ
@@ -119,8 +119,8 @@ module _ (R : Round) (n : ℕ) (s : Progress) (w T F : Bytes) (cell : Cell) (str
       pub cells-turn : Puts (cellBytes T F cell y) (take len (drop (q .top) v)) 0 Stored c → length v ≡ n → length c ≡ length (take len (drop (q .top) v))
           → Cells (withTop q (q .top + stride)) (putMid (q .top) len v c) (i + 1)
       cells-turn u e l =
-          run-turn anySchema R n s w stride (λ S r. cellElement T F cell stride r) (rowsFrom first m) (first + i) a (row-ith first m i less)
-          (run-room anySchema R n s w stride (λ S r. cellElement T F cell stride r) (rowsFrom first m) d a less)
+          run-turn anySchema R n s w stride 0 (λ S r. cellElement T F cell stride r) (rowsFrom first m) (first + i) a (row-ith first m i less)
+          (run-room anySchema R n s w stride 0 (λ S r. cellElement T F cell stride r) (rowsFrom first m) d a less)
           (record { more = omega arith; paid = omega arith; top = refl; met = omega arith })
           (λ S k t τ r. cell-made S R n T F cell stride len (first + i) y is wide q v c t τ u (l ∙ mid-len (q .top) (q .top + stride) v (rw e cells-room)) cells-room r)
 
@@ -130,13 +130,13 @@ module _ (R : Round) (n : ℕ) (s : Progress) (w T F : Bytes) (cell : Cell) (str
 
         pub cells-dropped : (u : Progress) (z : Bytes) → Puts (cellBytes T F cell y) (take len (drop (q .top) v)) 0 Unfit c → Fell q (p .top) (putMid (q .top) len v c) u z → Cells-post (Rn.Dropped u) z
         cells-dropped u z e f =
-            run-dropped anySchema R n p w stride m (λ S r. cellElement T F cell stride r) (rowsFrom first m) T block 0 (length-rowsFrom first m) (first + i) o paid a (row-ith first m i less) (a .safe)
+            run-dropped anySchema R n p w stride 0 m (λ S r. cellElement T F cell stride r) (rowsFrom first m) T block 0 (length-rowsFrom first m) (omega arith) (first + i) o paid a less (row-ith first m i less) (a .safe)
             (record { more = omega arith; paid = omega arith; top = omega arith; met = omega arith })
             (λ S k t τ r. cell-fails S R n T F cell stride len (first + i) y is wide q v c t τ e r) f
 
         pub cells-stopped : Puts (cellBytes T F cell y) (take len (drop (q .top) v)) 0 FloatText c → Cells-post (Rn.Refused 11 q) (putMid (q .top) len v c)
         cells-stopped e =
-            run-stopped anySchema R n p w stride m (λ S r. cellElement T F cell stride r) (rowsFrom first m) T block 0 (length-rowsFrom first m) (first + i) paid a (row-ith first m i less) (a .safe)
+            run-stopped anySchema R n p w stride 0 m (λ S r. cellElement T F cell stride r) (rowsFrom first m) T block 0 (length-rowsFrom first m) (omega arith) (first + i) paid a (row-ith first m i less) (a .safe)
             (λ S k t τ r. cell-halts S R n T F cell stride len (first + i) y is wide q v c t τ e r)
 
 -- texts by pointer
@@ -177,11 +177,11 @@ module _ (R : Round) (n : ℕ) (s : Progress) (w T : Bytes) (sub first m : ℕ) 
   texts S r = textElement (envOf T S R) sub r
 
   abbrev pub Texts : Progress → Bytes → ℕ → Type 0
-  Texts q v i = Running anySchema R n s w (slotSize sub) texts (rowsFrom first m) q v i
+  Texts q v i = Running anySchema R n s w (slotSize sub) 0 texts (rowsFrom first m) q v i
 
   module _ (q : Progress) (v : Bytes) (i : ℕ) (d : Ready R n (slotSize sub) m s) (a : Texts q v i) (less : i < m) (stride : ℕ) (slot : stride ≡ slotSize sub) where
     room : Safe R n (withTop q (q .top + slotSize sub))
-    room = run-room anySchema R n s w (slotSize sub) texts (rowsFrom first m) d a less
+    room = run-room anySchema R n s w (slotSize sub) 0 texts (rowsFrom first m) d a less
 
     pub texts-room : Safe R n (withTop q (q .top + stride))
     texts-room = rw slot room
@@ -201,7 +201,7 @@ module _ (R : Round) (n : ℕ) (s : Progress) (w T : Bytes) (sub first m : ℕ) 
       texts-turn u r z f g =
           let e = slots (Done u) r z f g in
           let b = e .grew .1 in
-          run-turn anySchema R n s w (slotSize sub) texts (rowsFrom first m) (first + i) a (row-ith first m i less) (e .grew .0)
+          run-turn anySchema R n s w (slotSize sub) 0 texts (rowsFrom first m) (first + i) a (row-ith first m i less) (e .grew .0)
           (record { more = b .more; paid = omega (arith, b .paid); top = omega (arith, b .top); met = omega (arith, b .met) })
           (λ S k t τ r. text-made S R n T sub (first + i) x is q v u z t τ e inside r)
 
@@ -209,5 +209,5 @@ module _ (R : Round) (n : ℕ) (s : Progress) (w T : Bytes) (sub first m : ℕ) 
           → Yields anySchema R n p w 0 (λ S. run (envOf T S R) (slotSize sub) block (textElement (envOf T S R) sub) (rowsFrom first m)) (Rn.Refused j u) z
       texts-stopped p block j u r z paid f g =
           let e = slots (Refused j u) r z f g in
-          run-stopped anySchema R n p w (slotSize sub) m texts (rowsFrom first m) T block 0 (length-rowsFrom first m) (first + i) paid a (row-ith first m i less) (e .grew)
+          run-stopped anySchema R n p w (slotSize sub) 0 m texts (rowsFrom first m) T block 0 (length-rowsFrom first m) (omega arith) (first + i) paid a (row-ith first m i less) (e .grew)
           (λ S k t τ r. text-halts S R n T sub (first + i) x is q v u z t τ j e inside r)

@@ -6,7 +6,7 @@ use mathlib.Core.Option.{Option, none, some}
 use Prim.Native.Nat.{ℕ, zero, suc, _+_, _-_, _*_, _^_, _≤_, _<_}
 use native.Mathlib.Omega.{arith}
 use borrow.Author.Tests.{leb-true}
-use native.Mathlib.Nat.{mul-le-mul, mul-le-mul-left}
+use native.Mathlib.Nat.{mul-le-mul, mul-le-mul-left, mul-le-mul-right, mul-assoc}
 use lib.Dec.{leb}
 use lib.ListN.{length, drop, length-append, drop-of-length-le}
 use Rattle.numbers.specs.Words.{Bytes, over, zeros}
@@ -199,10 +199,10 @@ pub record Halts (S : Schema) (R : Round) (n : ℕ) (k : ℕ) (o : Out (Option B
   pub is : o ≡ stop k events
   pub stopped : Stopped S R n events q v
 
--- the elements xs are written from s and w on: i of them are, and the numbers and the area are q and v
-pub record Running (known : Schema → Type 0) (R : Round) (n : ℕ) (s : Progress) (w : Bytes) (stride : ℕ) {X : Type 0} (f : Schema → X → M (Option Bytes)) (xs : List X) (q : Progress) (v : Bytes) (i : ℕ) : Type 0 where
+-- the elements xs are written from s and w on: i of them are, each with at most `each` remarks that it has not paid for, and the numbers and the area are q and v
+pub record Running (known : Schema → Type 0) (R : Round) (n : ℕ) (s : Progress) (w : Bytes) (stride each : ℕ) {X : Type 0} (f : Schema → X → M (Option Bytes)) (xs : List X) (q : Progress) (v : Bytes) (i : ℕ) : Type 0 where
   pub safe : Safe R n q
-  pub grown : Grown s 0 (stride * i) 0 q
+  pub grown : Grown s 0 (stride * i) (each * i) q
   pub along : (S : Schema) → known S → (t : State) (σ : Bytes) → Rep S R n t σ s w → Along S R n σ (f S) xs t q v i
 
 module _ {X : Type 0} (E : Env) (stride block : ℕ) (f : X → M (Option Bytes)) (xs : List X) where
@@ -225,9 +225,9 @@ module _ {X : Type 0} (E : Env) (stride block : ℕ) (f : X → M (Option Bytes)
   unfolding run bind after pay
   run-dear m s l e = rw (l, e) refl
 
-module _ (known : Schema → Type 0) (R : Round) (n : ℕ) (s : Progress) (w : Bytes) (stride : ℕ) {X : Type 0} (f : Schema → X → M (Option Bytes)) (xs : List X) where
+module _ (known : Schema → Type 0) (R : Round) (n : ℕ) (s : Progress) (w : Bytes) (stride each : ℕ) {X : Type 0} (f : Schema → X → M (Option Bytes)) (xs : List X) where
   -- before the first element
-  pub run-begin : Safe R n s → Running known R n s w stride f xs s w 0
+  pub run-begin : Safe R n s → Running known R n s w stride each f xs s w 0
   run-begin h = record {
     safe = h;
     grown = record { more = omega arith; paid = omega arith; top = omega arith; met = omega arith };
@@ -235,7 +235,7 @@ module _ (known : Schema → Type 0) (R : Round) (n : ℕ) (s : Progress) (w : B
   }
 
   -- there is room for the next
-  pub run-room : {q : Progress} {v : Bytes} {i m : ℕ} → Ready R n stride m s → Running known R n s w stride f xs q v i → i < m → Safe R n (withTop q (q .top + stride))
+  pub run-room : {q : Progress} {v : Bytes} {i m : ℕ} → Ready R n stride m s → Running known R n s w stride each f xs q v i → i < m → Safe R n (withTop q (q .top + stride))
   run-room {q} {v} {i} {m} d a l =
       let h = a .safe in
       let b = a .grown in
@@ -257,8 +257,8 @@ module _ (known : Schema → Type 0) (R : Round) (n : ℕ) (s : Progress) (w : B
       }
 
   -- one element more
-  pub run-turn : {q q' : Progress} {v v' : Bytes} {i : ℕ} (x : X) → Running known R n s w stride f xs q v i → Ith x i xs → Safe R n q' → Grown q 0 stride 0 q'
-      → ((S : Schema) → known S → (t : State) (τ : Bytes) → Rep S R n t τ q v → Made S R n τ (f S x t) q' v') → Running known R n s w stride f xs q' v' (i + 1)
+  pub run-turn : {q q' : Progress} {v v' : Bytes} {i : ℕ} (x : X) → Running known R n s w stride each f xs q v i → Ith x i xs → Safe R n q' → Grown q 0 stride each q'
+      → ((S : Schema) → known S → (t : State) (τ : Bytes) → Rep S R n t τ q v → Made S R n τ (f S x t) q' v') → Running known R n s w stride each f xs q' v' (i + 1)
   run-turn {q} {q'} {v} {v'} {i} x a e h g d =
       let b = a .grown in
       record {
@@ -271,7 +271,7 @@ module _ (known : Schema → Type 0) (R : Round) (n : ℕ) (s : Progress) (w : B
             along-turn y e (z .is) (rw (← append-assoc) (z .rep));
       }
 
-module _ (known : Schema → Type 0) (R : Round) (n : ℕ) (p : Progress) (w : Bytes) (stride m : ℕ) {X : Type 0} (f : Schema → X → M (Option Bytes)) (xs : List X) (T : Bytes) (block notes : ℕ) (many : length xs ≡ m) where
+module _ (known : Schema → Type 0) (R : Round) (n : ℕ) (p : Progress) (w : Bytes) (stride each m : ℕ) {X : Type 0} (f : Schema → X → M (Option Bytes)) (xs : List X) (T : Bytes) (block notes : ℕ) (many : length xs ≡ m) (cheap : each ≤ 65536 * stride) where
   abbrev Post : Ran → Bytes → Type 0
   Post r v = Yields known R n p w notes (λ S. run (envOf T S R) stride block (f S) xs) r v
 
@@ -281,15 +281,23 @@ module _ (known : Schema → Type 0) (R : Round) (n : ℕ) (p : Progress) (w : B
   rep-then : {s : Progress} {t : State} {σ : Bytes} (S : Schema) → Paid R p (runCost stride m) s → Rep S R n t σ p w → Rep S R n (withCharge (t .charge + runCost stride m) t) σ s w
   rep-then {s} {t} {σ} S d r = subst (λ (q : Progress). Rep S R n (withCharge (t .charge + runCost stride m) t) σ q w) (d .is) (rep-paid S R n t σ p w (runCost stride m) r)
 
-  grown-then : {s q : Progress} {k : ℕ} → Paid R p (runCost stride m) s → Grown s 0 k 0 q → Grown (withPaid p (p .charge + runCost stride m)) 0 k 0 q
-  grown-then {s} {q} {k} d g = subst (λ (z : Progress). Grown z 0 k 0 q) (sym (d .is)) g
+  grown-then : {s q : Progress} {k j : ℕ} → Paid R p (runCost stride m) s → Grown s 0 k j q → Grown (withPaid p (p .charge + runCost stride m)) 0 k j q
+  grown-then {s} {q} {k} {j} d g = subst (λ (z : Progress). Grown z 0 k j q) (sym (d .is)) g
+
+  -- the remarks are paid for
+  afforded : (i : ℕ) → i ≤ m → each * i ≤ 65536 * (stride * m)
+  afforded i h =
+      let a : each * i ≤ 65536 * stride * i = mul-le-mul-right i cheap in
+      let b : stride * i ≤ stride * m = mul-le-mul-left stride h in
+      let c : 65536 * stride * i ≡ 65536 * (stride * i) = mul-assoc 65536 stride i in
+      omega (arith, a, b, c)
 
   -- all are written
-  pub run-kept : {s q : Progress} {v : Bytes} {i : ℕ} → Paid R p (runCost stride m) s → Running known R n s w stride f xs q v i → i ≡ m → Post (Rn.Kept block q) v
+  pub run-kept : {s q : Progress} {v : Bytes} {i : ℕ} → Paid R p (runCost stride m) s → Running known R n s w stride each f xs q v i → i ≡ m → Post (Rn.Kept block q) v
   run-kept {s} {q} {v} {i} d a e =
       let b = grown-then d (a .grown) in
       record {
-        grew = (a .safe, omega (arith, b .top), record { more = b .more; paid = omega (arith, b .paid, b .top, ap (λ (j : ℕ). stride * j) e); top = omega (arith, b .top); met = omega (arith, b .met) });
+        grew = (a .safe, omega (arith, b .top), record { more = b .more; paid = omega (arith, b .paid, b .top, ap (λ (j : ℕ). stride * j) e); top = omega (arith, b .top); met = omega (arith, b .met, afforded i (omega (arith, e))) });
         says =
             λ S k t σ r.
             let y = a .along S k (withCharge (t .charge + runCost stride m) t) σ (rep-then S d r) in
@@ -297,9 +305,9 @@ module _ (known : Schema → Type 0) (R : Round) (n : ℕ) (p : Progress) (w : B
       }
 
   -- an element fails, and those before it are taken off the stack
-  pub run-dropped : {s q q' u : Progress} {v v' v'' : Bytes} {i : ℕ} (x : X) → Safe R n p → Paid R p (runCost stride m) s → Running known R n s w stride f xs q v i → Ith x i xs → Safe R n q'
+  pub run-dropped : {s q q' u : Progress} {v v' v'' : Bytes} {i : ℕ} (x : X) → Safe R n p → Paid R p (runCost stride m) s → Running known R n s w stride each f xs q v i → i < m → Ith x i xs → Safe R n q'
       → Grown q 0 0 0 q' → ((S : Schema) → known S → (t : State) (τ : Bytes) → Rep S R n t τ q v → Fails S R n τ (f S x t) q' v') → Fell q' (p .top) v' u v'' → Post (Rn.Dropped u) v''
-  run-dropped {s} {q} {q'} {u} {v} {v'} {v''} {i} x o d a e h g l y =
+  run-dropped {s} {q} {q'} {u} {v} {v'} {v''} {i} x o d a few e h g l y =
       let b = grown-then d (a .grown) in
       rw (y .number, y .area)
       (record {
@@ -319,7 +327,7 @@ module _ (known : Schema → Type 0) (R : Round) (n : ℕ) (p : Progress) (w : B
             next = h .next;
             seen = h .seen;
           },
-          record { more = omega (arith, b .more, g .more); paid = omega (arith, b .paid, g .paid); top = omega arith; met = omega (arith, b .met, g .met) },
+          record { more = omega (arith, b .more, g .more); paid = omega (arith, b .paid, g .paid); top = omega arith; met = omega (arith, b .met, g .met, afforded i (omega (arith, few))) },
         );
         says =
             λ S k t σ r.
@@ -331,7 +339,7 @@ module _ (known : Schema → Type 0) (R : Round) (n : ℕ) (p : Progress) (w : B
       })
 
   -- an element is refused
-  pub run-stopped : {s q q' : Progress} {v v' : Bytes} {i k : ℕ} (x : X) → Paid R p (runCost stride m) s → Running known R n s w stride f xs q v i → Ith x i xs → Safe R n q'
+  pub run-stopped : {s q q' : Progress} {v v' : Bytes} {i k : ℕ} (x : X) → Paid R p (runCost stride m) s → Running known R n s w stride each f xs q v i → Ith x i xs → Safe R n q'
       → ((S : Schema) → known S → (t : State) (τ : Bytes) → Rep S R n t τ q v → Halts S R n k (f S x t) q' v') → Post (Rn.Refused k q') v'
   run-stopped {s} {q} {q'} {v} {v'} {i} {k} x d a e h l = record {
     grew = h;

@@ -36,7 +36,7 @@ enum-known-s c = search needs
 loop-holds : tie.Need-loop-holds Inv-loop μ-loop
 loop-holds c =
     let a = c .before .before .before .before .before .before .before .before .args in
-    (omega arith, refl, λ R d. run-begin anySchema R (length (a .work .now)) (c .before .s .given .0 .0) (a .work .now) (a .stride) (λ S r. cellElement (a .sheet .now) (a .schema .now) (a .cell) (a .stride) r) (rowsFrom (a .first) (a .n)) (d .safe))
+    (omega arith, refl, λ R d. run-begin anySchema R (length (a .work .now)) (c .before .s .given .0 .0) (a .work .now) (a .stride) 0 (λ S r. cellElement (a .sheet .now) (a .schema .now) (a .cell) (a .stride) r) (rowsFrom (a .first) (a .n)) (d .safe))
 
 add-stop : tie.Need-add-stop Inv-loop μ-loop
 add-stop c =
@@ -150,7 +150,7 @@ returns-3 : tie.Need-returns-3 Inv-loop μ-loop
 returns-3 c =
     let s = c .before .before .before .before .before .before .before .before in
     let a = s .args in
-    run-too-dear anySchema (a .round) (length (a .work .now)) (a .p) (a .work .now) (a .stride) (a .n) (λ S r. cellElement (a .sheet .now) (a .schema .now) (a .cell) (a .stride) r) (rowsFrom (a .first) (a .n)) (a .sheet .now) (a .block) 0 (length-rowsFrom (a .first) (a .n)) (c .before .before .before .before .run-cost .result) (c .before .before .before .pay .result) (c .before .k .given .0 .0) (c .before .k .given .0 .1 .0) (s .pre .0) (c .before .before .before .before .run-cost .ensures) (c .before .before .before .pay .ensures) (c .before .k .given .1)
+    run-too-dear anySchema (a .round) (length (a .work .now)) (a .p) (a .work .now) (a .stride) 0 (a .n) (λ S r. cellElement (a .sheet .now) (a .schema .now) (a .cell) (a .stride) r) (rowsFrom (a .first) (a .n)) (a .sheet .now) (a .block) 0 (length-rowsFrom (a .first) (a .n)) (omega arith) (c .before .before .before .before .run-cost .result) (c .before .before .before .pay .result) (c .before .k .given .0 .0) (c .before .k .given .0 .1 .0) (s .pre .0) (c .before .before .before .before .run-cost .ensures) (c .before .before .before .pay .ensures) (c .before .k .given .1)
 
 same-length-3 : tie.Need-same-length-3 Inv-loop μ-loop
 same-length-3 c = search needs
@@ -163,7 +163,7 @@ returns-4 c =
     let d = paid-done (a .round) (a .p) (runCost (a .stride) (a .n)) (c .before .before .before .before .before .before .run-cost .result) (c .before .before .before .before .before .pay .result) (c .before .before .before .s .given .0 .0) (c .before .before .before .before .before .before .run-cost .ensures) (c .before .before .before .before .before .pay .ensures) (c .before .before .before .s .given .1) in
     let r = ready (a .stride) (a .n) (s .pre .0) d in
     let u = l .inv .2 (a .round) r in
-    run-kept anySchema (a .round) (length (a .work .now)) (a .p) (a .work .now) (a .stride) (a .n) (λ S r. cellElement (a .sheet .now) (a .schema .now) (a .cell) (a .stride) r) (rowsFrom (a .first) (a .n)) (a .sheet .now) (a .block) 0 (length-rowsFrom (a .first) (a .n)) d u (omega (arith, l .inv .0, c .loop-test .left))
+    run-kept anySchema (a .round) (length (a .work .now)) (a .p) (a .work .now) (a .stride) 0 (a .n) (λ S r. cellElement (a .sheet .now) (a .schema .now) (a .cell) (a .stride) r) (rowsFrom (a .first) (a .n)) (a .sheet .now) (a .block) 0 (length-rowsFrom (a .first) (a .n)) (omega arith) d u (omega (arith, l .inv .0, c .loop-test .left))
 
 pub cell-run-spec : {M : Type 1} → statement M
 cell-run-spec =

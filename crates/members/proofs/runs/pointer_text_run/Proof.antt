@@ -43,7 +43,7 @@ enum-known-s c = search needs
 loop-holds : tie.Need-loop-holds Inv-loop μ-loop
 loop-holds c =
     let a = c .before .before .before .before .before .before .before .before .args in
-    (omega arith, refl, λ d. run-begin anySchema (a .round) (length (a .work .now)) (c .before .s .given .0 .0) (a .work .now) (slotSize (a .sub)) (λ S r. textElement (envOf (a .sheet .now) S (a .round)) (a .sub) r) (rowsFrom (a .first) (a .n)) (d .safe))
+    (omega arith, refl, λ d. run-begin anySchema (a .round) (length (a .work .now)) (c .before .s .given .0 .0) (a .work .now) (slotSize (a .sub)) 0 (λ S r. textElement (envOf (a .sheet .now) S (a .round)) (a .sub) r) (rowsFrom (a .first) (a .n)) (d .safe))
 
 add-q : tie.Need-add-q Inv-loop μ-loop
 add-q c =
@@ -115,7 +115,7 @@ returns-2 : tie.Need-returns-2 Inv-loop μ-loop
 returns-2 c =
     let s = c .before .before .before .before .before .before .before .before in
     let a = s .args in
-    run-too-dear anySchema (a .round) (length (a .work .now)) (a .p) (a .work .now) (slotSize (a .sub)) (a .n) (λ S r. textElement (envOf (a .sheet .now) S (a .round)) (a .sub) r) (rowsFrom (a .first) (a .n)) (a .sheet .now) (slotBlock (a .sub)) 0 (length-rowsFrom (a .first) (a .n)) (c .before .before .before .before .run-cost .result) (c .before .before .before .pay .result) (c .before .k .given .0 .0) (c .before .k .given .0 .1 .0) (s .pre) (c .before .before .before .before .run-cost .ensures ∙ ap (λ (x : ℕ). 16 + x * a .n) (c .before .before .before .before .before .slot-size .ensures .0)) (c .before .before .before .pay .ensures) (c .before .k .given .1)
+    run-too-dear anySchema (a .round) (length (a .work .now)) (a .p) (a .work .now) (slotSize (a .sub)) 0 (a .n) (λ S r. textElement (envOf (a .sheet .now) S (a .round)) (a .sub) r) (rowsFrom (a .first) (a .n)) (a .sheet .now) (slotBlock (a .sub)) 0 (length-rowsFrom (a .first) (a .n)) (omega arith) (c .before .before .before .before .run-cost .result) (c .before .before .before .pay .result) (c .before .k .given .0 .0) (c .before .k .given .0 .1 .0) (s .pre) (c .before .before .before .before .run-cost .ensures ∙ ap (λ (x : ℕ). 16 + x * a .n) (c .before .before .before .before .before .slot-size .ensures .0)) (c .before .before .before .pay .ensures) (c .before .k .given .1)
 
 same-length-2 : tie.Need-same-length-2 Inv-loop μ-loop
 same-length-2 c = search needs
@@ -127,7 +127,7 @@ returns-3 c =
     let l = c .before .before .loop in
     let d = paid-done (a .round) (a .p) (runCost (slotSize (a .sub)) (a .n)) (c .before .before .before .before .before .before .before .run-cost .result) (c .before .before .before .before .before .before .pay .result) (c .before .before .before .before .s .given .0 .0) (c .before .before .before .before .before .before .before .run-cost .ensures ∙ ap (λ (x : ℕ). 16 + x * a .n) (c .before .before .before .before .before .before .before .before .slot-size .ensures .0)) (c .before .before .before .before .before .before .pay .ensures) (c .before .before .before .before .s .given .1) in
     let r = ready (slotSize (a .sub)) (a .n) (s .pre) d in
-    rw (c .slot-block .ensures) (run-kept anySchema (a .round) (length (a .work .now)) (a .p) (a .work .now) (slotSize (a .sub)) (a .n) (λ S r. textElement (envOf (a .sheet .now) S (a .round)) (a .sub) r) (rowsFrom (a .first) (a .n)) (a .sheet .now) (slotBlock (a .sub)) 0 (length-rowsFrom (a .first) (a .n)) d (l .inv .2 r) (omega (arith, l .inv .0, c .before .loop-test .left)))
+    rw (c .slot-block .ensures) (run-kept anySchema (a .round) (length (a .work .now)) (a .p) (a .work .now) (slotSize (a .sub)) 0 (a .n) (λ S r. textElement (envOf (a .sheet .now) S (a .round)) (a .sub) r) (rowsFrom (a .first) (a .n)) (a .sheet .now) (slotBlock (a .sub)) 0 (length-rowsFrom (a .first) (a .n)) (omega arith) d (l .inv .2 r) (omega (arith, l .inv .0, c .before .loop-test .left)))
 
 pub pointer-text-run-spec : {M : Type 1} → statement M
 pointer-text-run-spec =
