@@ -47,7 +47,7 @@ pub fn run_cost(stride: u32, n: u32) -> usize
 }
 
 // The elements from `base` on are taken off the stack.
-fn drop_run(work: &mut [u8], p: Progress, base: usize) -> Progress
+pub fn drop_run(work: &mut [u8], p: Progress, base: usize) -> Progress
     requires { ⌜ (base ≤ p .top) × (p .top ≤ length (now work)) ⌝ }
     ensures { λ q. ⌜ Fell p base (now (work .entry)) q (now (work .exit)) ⌝ }
 {
