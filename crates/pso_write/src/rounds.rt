@@ -2,6 +2,7 @@
 use crate::Job;
 use crate::Stage;
 use crate::run::Ran;
+use crate::run::run_round;
 use area::Progress;
 use area::Round;
 use assemble::file::file_length;
@@ -14,12 +15,14 @@ use value::check::check_sheet;
 use value::read_row;
 ghost use mathlib.Core.Path.{_≡_};
 ghost use lib.ListN.{length};
+ghost use Rattle.numbers.specs.Words.{zeros};
 ghost use Rattle.numbers.specs.Result.{ok};
 ghost use Rattle.schema.specs.Defs.{Schema, indexEntries};
 ghost use Rattle.schema.specs.Psch.{schemaOf};
 ghost use Rattle.layout.specs.Build.{sheetOk};
 ghost use Rattle.area.specs.Posts.{Safe};
-ghost use Rattle.pso_write.specs.Merge.{refusalOf, endedAt, soughtAt, jobOf, roomedAt, Judges, Opens};
+ghost use Rattle.pso_write.specs.Rounds.{Roomy, Rooted};
+ghost use Rattle.pso_write.specs.Merge.{refusalOf, endedAt, soughtAt, jobOf, takenAt, roomedAt, Judges, Takes, Opens};
 
 // What is refused before the layout; or what it runs with: the round, the root's place and name.
 pub enum Opening {
@@ -184,4 +187,36 @@ pub fn judged(schema: &[u8], work: &[u8], size: usize, st: Stage) -> Stage
     q.length = n;
     q.at = st.count;
     q
+}
+
+// Runs a round, whose rows are to be merged behind `count` records.
+pub fn take_round(
+    sheet: &[u8],
+    schema: &[u8],
+    work: &mut [u8],
+    size: usize,
+    room: usize,
+    round: Round,
+    place: usize,
+    name: u32,
+    count: usize,
+) -> Stage
+    requires { ⌜ Roomy round (length (now work)) × (now work ≡ zeros (length (now work))) × Rooted (now schema) round place name ⌝ }
+    ensures { λ r. ⌜ Takes (now (sheet .entry)) (now (schema .entry)) size room round place name count r (now (work .exit)) ⌝ }
+{
+    let r = run_round(sheet, schema, work, round, place, name);
+    let j = job_of(r, round, place, name);
+    let st = Stage {
+        at: 0,
+        last: false,
+        length: 0,
+        base: count,
+        count,
+        row: 0,
+        job: j,
+    };
+    if j.p.rows == 0 {
+        return judged(schema, work, size, st);
+    }
+    seek(room, st, 0)
 }

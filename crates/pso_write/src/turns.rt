@@ -1,12 +1,119 @@
 // The driver's steps: what each turn makes of the record that it is given.
 use crate::Built;
 use crate::Stage;
+use crate::Turn;
+use crate::rounds::Opening;
+use crate::rounds::judged;
+use crate::rounds::opened;
+use crate::rounds::refusal;
+use crate::rounds::seek;
+use crate::rounds::take_round;
+use area::notes::row_at;
+use area::notes::same;
 use assemble::file::put_file;
 use assemble::file::wipe;
+use layout::Remark;
 use numbers::words::clear;
 ghost use mathlib.Core.Path.{_≡_};
 ghost use lib.ListN.{length};
-ghost use Rattle.pso_write.specs.Merge.{Closing, Ends};
+ghost use Rattle.pso_write.specs.Merge.{Fit, Passes, Ready, Steps, Begins, Closing, Ends};
+
+// The work area is cleared, all is checked, and the first round runs.
+pub fn first(sheet: &[u8], schema: &[u8], work: &mut [u8], size: usize, room: usize) -> Stage
+    ensures { λ r. ⌜ Begins (now (sheet .entry)) (now (schema .entry)) size room r (now (work .exit)) ⌝ }
+{
+    let n = work.len();
+    clear(work, 0, n);
+    match opened(sheet, schema, n) {
+        Opening::Refused(k) => refusal(k),
+        Opening::Go(round, place, name) => take_round(
+            sheet,
+            schema,
+            work,
+            size,
+            room,
+            round,
+            place,
+            name,
+            0,
+        ),
+    }
+}
+
+// A row is done with: the next one; or the next round; or the end.
+fn passed(
+    sheet: &[u8],
+    schema: &[u8],
+    work: &mut [u8],
+    size: usize,
+    room: usize,
+    st: Stage,
+) -> Stage
+    requires { ⌜ Fit (now sheet) (now schema) (now work) size room st ⌝ }
+    ensures { λ r. ⌜ Passes (now (sheet .entry)) (now (schema .entry)) size room st (now (work .entry)) r (now (work .exit)) ⌝ }
+{
+    let j = st.job;
+    if st.row + 1 < j.p.rows {
+        let mut q = st;
+        q.row = st.row + 1;
+        return seek(room, q, 0);
+    }
+    if j.p.seen <= j.p.next {
+        return judged(schema, work, size, st);
+    }
+    wipe(work, j.round, j.p);
+    let mut round = j.round;
+    round.skip = j.p.next;
+    take_round(
+        sheet,
+        schema,
+        work,
+        size,
+        room,
+        round,
+        j.place,
+        j.name,
+        st.count,
+    )
+}
+
+// One turn: record `at` is `old`.
+pub fn turn(
+    sheet: &[u8],
+    schema: &[u8],
+    work: &mut [u8],
+    size: usize,
+    room: usize,
+    st: Stage,
+    old: Remark,
+) -> Turn
+    requires { ⌜ Ready (now sheet) (now schema) size room st (now work) ⌝ }
+    ensures { λ t. ⌜ Steps (now (sheet .entry)) (now (schema .entry)) size room st old (now (work .entry)) t (now (work .exit)) ⌝ }
+{
+    let mut q = st;
+    if st.last {
+        q.at = st.at + 1;
+        let none = Remark {
+            kind: 0,
+            structure: 0,
+            member: 0,
+            detail: 0,
+        };
+        return Turn { st: q, new: none };
+    }
+    let r = row_at(work, 32768 + 16 * st.row);
+    if st.base <= st.at {
+        q.count = st.count + 1;
+        let s = passed(sheet, schema, work, size, room, q);
+        return Turn { st: s, new: r };
+    }
+    if same(old, r) {
+        let s = passed(sheet, schema, work, size, room, st);
+        return Turn { st: s, new: old };
+    }
+    let s = seek(room, st, st.at + 1);
+    Turn { st: s, new: old }
+}
 
 // The answer, the file on success alone, and the work area zero.
 pub fn last(

@@ -1,0 +1,33 @@
+-- `pso_write::turns::first` meets its contract. Assumes nothing.
+use mathlib.Core.Path.{sym, subst, _∙_}
+use lib.ListN.{length}
+use borrow.Author.Needs.{needs}
+use Rattle.pso_write.specs.Merge.{Begins, Opens}
+use Rattle.pso_write.proofs.Endings.{begin-refused, begin-ready, begin-round}
+use Rattle.pso_write.proofs.turns.first.Statement.{statement}
+use Rattle.pso_write.proofs.turns.first.Tie as tie
+
+pub first-spec : {M : Type 1} → statement M
+first-spec =
+    tie.close
+    (tie.spec
+    (λ c κs. search needs) (λ c κs. search needs) (λ c. search needs) (λ c κs. search needs) (λ c. search needs)
+    (λ c κs.
+    let a = c .before .before .before .before .before .before .before .before .before .before .before .before .args in
+    let g = c .before .before .round .given in
+    begin-ready (a .sheet .now) (a .schema .now) (a .size) (a .room) (a .work .now) (c .before .before .before .before .before .before .before .clear .last .0) (g .0 .0) (g .0 .1 .0) (g .0 .1 .1 .0) (c .before .before .before .before .before .before .before .clear .ensures)
+    (subst (Opens (a .sheet .now) (a .schema .now) (length (a .work .now))) (g .1) (c .before .before .before .before .opened .ensures)))
+    (λ c. search needs)
+    (λ c.
+    let a = c .before .before .before .before .before .before .before .before .before .before .before .before .args in
+    let w = c .before .before .before .before .before .before .before .clear .last .0 in
+    let g = c .before .before .k .given in
+    subst (λ r. Begins (a .sheet .now) (a .schema .now) (a .size) (a .room) r w) (sym (c .refusal .ensures))
+    (begin-refused (a .sheet .now) (a .schema .now) (a .size) (a .room) w (length (a .work .now)) (g .0 .0) (c .before .before .before .before .before .before .work .given) (subst (Opens (a .sheet .now) (a .schema .now) (length (a .work .now))) (g .1) (c .before .before .before .before .opened .ensures))))
+    (λ c. search needs)
+    (λ c.
+    let a = c .before .before .before .before .before .before .before .before .before .before .before .before .before .before .before .args in
+    let t = c .before .before .take-round in
+    let g = c .before .before .before .before .before .round .given in
+    begin-round (a .sheet .now) (a .schema .now) (a .size) (a .room) (t .last .1 .1 .0) (length (a .work .now)) (g .0 .0) (g .0 .1 .0) (g .0 .1 .1 .0) (c .before .work2 .given ∙ c .before .before .before .before .before .before .before .before .before .work .given)
+    (subst (Opens (a .sheet .now) (a .schema .now) (length (a .work .now))) (g .1) (c .before .before .before .before .before .before .before .opened .ensures)) (t .result) (t .ensures)))
