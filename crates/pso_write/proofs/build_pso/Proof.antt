@@ -442,7 +442,7 @@ module _ {M : Type 1} (𝓤 : URA M) (H : Heap 𝓤) (A : Atoms 𝓤) (W : Given
         assigns-last ! (of-opd ! (load ! (from ! (fld ! refl (stop !))) (look-in ! 46 (sub ! 0 refl (whole !))))) (from ! (stop !)) (store ! 52 refl (LL.lawful S.the-type S′.the-laws 𝓤 H A W .typed (u .st) _ (st-is u w₂ is₂) .0)) $
         forget ! 26 refl $ forget ! 28 refl $ forget ! 30 refl $ forget ! 32 refl $ forget ! 34 refl $ forget ! 36 refl $ forget ! 38 refl $ forget ! 40 refl $ forget ! 46 refl $ forget ! 48 refl $ forget ! 50 refl $
         keep ! (0 ∷ 1 ∷ 5 ∷ 6 ∷ 13 ∷ 9 ∷ 12 ∷ 8 ∷ 16 ∷ 17 ∷ 18 ∷ 19 ∷ 20 ∷ 21 ∷ 22 ∷ 23 ∷ 24 ∷ 25 ∷ 26 ∷ 27 ∷ 28 ∷ 29 ∷ 30 ∷ 31 ∷ 32 ∷ 33 ∷ 34 ∷ 35 ∷ 36 ∷ 37 ∷ 38 ∷ 39 ∷ 40 ∷ 41 ∷ 42 ∷ 43 ∷ 44 ∷ 45 ∷ 46 ∷ 47 ∷ 48 ∷ 49 ∷ 50 ∷ 51 ∷ 52 ∷ 53 ∷ 54 ∷ 55 ∷ 56 ∷ 57 ∷ 58 ∷ 59 ∷ 60 ∷ 61 ∷ 62 ∷ 63 ∷ 64 ∷ 65 ∷ 66 ∷ 67 ∷ 68 ∷ 69 ∷ []) $
-        again ! Nearer At t (u .st, (zs .0, (us .1 .1 .0, next t r u (zs .0) (us .1 .1 .0) (st-is u w₂ is₂) ln0n ln2u e e₂ e₃))) (falls t r u (us .1 .1 .0) e e₂) ))))))))))))))))))))))))
+        again ! Nearer At t (u .st, (zs .0, (us .1 .1 .0, next t r u (zs .0) (us .1 .1 .0) (st-is u w₂ is₂) ln0n ln2u e e₂ e₃))) (falls t r u (us .1 .1 .0) e e₂)))))))))))))))))))))))))
         (λ over. jumps ! $ exec ! C Λ En body.t-7 (atRet En Post) $
         assigns ! (addr ! (from ! (fld ! refl (hop ! (look-in ! 52 (sub ! 0 refl (whole !))) (stop !))))) (from ! (stop !)) (init ! 16 refl (tt, tt)) $
         assigns ! (agg ! (and-then ! (load ! (from ! (stop !)) (look ! 16 refl)) (and-then ! (load ! (from ! (fld ! refl (stop !))) (look-in ! 52 (sub ! 1 refl (whole !)))) (no-more !)))) (from ! (stop !)) (init ! 14 refl (tt, (tt, (record { fits = ru .0 }, tt)))) $
@@ -459,7 +459,7 @@ module _ {M : Type 1} (𝓤 : URA M) (H : Heap 𝓤) (A : Atoms 𝓤) (W : Given
         land ! (from ! (stop !)) (init ! 59 refl (EL.lawful O.the-type O′.the-laws 𝓤 H A W tt .typed r _ is .0)) $
         returns ! (look ! 59 refl) $ forget ! 9 refl $ forget ! 11 refl $ forget ! 13 refl $ forget ! 15 refl $ forget ! 31 refl $ forget ! 43 refl $ forget ! 45 refl $ forget ! 47 refl $ forget ! 49 refl $ forget ! 51 refl $ forget ! 53 refl $ forget ! 55 refl $ forget ! 57 refl $ forget ! 59 refl $
         move ! (59 ∷ 60 ∷ []) $ free1 ! $ move ! (57 ∷ 58 ∷ []) $ free1 ! $ move ! (55 ∷ 56 ∷ []) $ free1 ! $ move ! (53 ∷ 54 ∷ []) $ free1 ! $ move ! (51 ∷ 52 ∷ []) $ free1 ! $ move ! (49 ∷ 50 ∷ []) $ free1 ! $ move ! (47 ∷ 48 ∷ []) $ free1 ! $ move ! (45 ∷ 46 ∷ []) $ free1 ! $ move ! (43 ∷ 44 ∷ []) $ free1 ! $ move ! (41 ∷ 42 ∷ []) $ free1 ! $ move ! (39 ∷ 40 ∷ []) $ free1 ! $ move ! (37 ∷ 38 ∷ []) $ free1 ! $ move ! (35 ∷ 36 ∷ []) $ free1 ! $ move ! (33 ∷ 34 ∷ []) $ free1 ! $ move ! (31 ∷ 32 ∷ []) $ free1 ! $ move ! (29 ∷ 30 ∷ []) $ free1 ! $ move ! (27 ∷ 28 ∷ []) $ free1 ! $ move ! (25 ∷ 26 ∷ []) $ free1 ! $ move ! (23 ∷ 24 ∷ []) $ free1 ! $ move ! (21 ∷ 22 ∷ []) $ free1 ! $ move ! (19 ∷ 20 ∷ []) $ free1 ! $ move ! (17 ∷ 18 ∷ []) $ free1 ! $ move ! (15 ∷ 16 ∷ []) $ free1 ! $ move ! (13 ∷ 14 ∷ []) $ free1 ! $ move ! (11 ∷ 12 ∷ []) $ free1 ! $ move ! (9 ∷ 10 ∷ []) $ free1 ! $ free0 ! $
-        move ! (1 ∷ []) $ split ! $ move ! (1 ∷ []) $ split ! $ move ! (1 ∷ []) $ split ! $ move ! (1 ∷ []) $ split ! $ move ! (2 ∷ 12 ∷ []) $ join ! $ move ! (1 ∷ 0 ∷ []) $ join ! $ move ! (2 ∷ 0 ∷ []) $ join ! $ move ! (2 ∷ 0 ∷ []) $ join ! $ move ! (5 ∷ 8 ∷ []) $ join ! $ move ! (4 ∷ 0 ∷ []) $ join ! $ move ! (5 ∷ 0 ∷ []) $ join ! $ move ! (5 ∷ 0 ∷ []) $ join ! $ keep ! (1 ∷ 0 ∷ []) $ by ! (exits r w (t .1 .0) (us .1 .1 .0) (us .1 .1 .1 .0) is (t .1 .1 .1 .1 .0) ln2r (ln3r ∙ t .1 .1 .1 .1 .1 .0) (said t over r (us .1 .1 .0) (us .1 .1 .1 .0) e)) ))))))))
+        move ! (1 ∷ []) $ split ! $ move ! (1 ∷ []) $ split ! $ move ! (1 ∷ []) $ split ! $ move ! (1 ∷ []) $ split ! $ move ! (2 ∷ 12 ∷ []) $ join ! $ move ! (1 ∷ 0 ∷ []) $ join ! $ move ! (2 ∷ 0 ∷ []) $ join ! $ move ! (2 ∷ 0 ∷ []) $ join ! $ move ! (5 ∷ 8 ∷ []) $ join ! $ move ! (4 ∷ 0 ∷ []) $ join ! $ move ! (5 ∷ 0 ∷ []) $ join ! $ move ! (5 ∷ 0 ∷ []) $ join ! $ keep ! (1 ∷ 0 ∷ []) $ by ! (exits r w (t .1 .0) (us .1 .1 .0) (us .1 .1 .1 .0) is (t .1 .1 .1 .1 .0) ln2r (ln3r ∙ t .1 .1 .1 .1 .1 .0) (said t over r (us .1 .1 .0) (us .1 .1 .1 .0) e))))))))))
       where
         fits : (t : State) → Holds (ltb (t .0 .at) N) → t .0 .at < 2 ^ 64
         fits t less = lt-trans (ltb→lt (t .0 .at) N less) (rl .0)
@@ -540,7 +540,7 @@ module _ {M : Type 1} (𝓤 : URA M) (H : Heap 𝓤) (A : Atoms 𝓤) (W : Given
         move ! (1 ∷ []) $ split ! $ move ! (1 ∷ []) $ split ! $ move ! (1 ∷ []) $ split ! $ lft-end ! tt $ move ! (0 ∷ 9 ∷ 5 ∷ []) $ use3 W (later (‵ (Wrk (us .1 .1 .0)) ⊛ ‵ (flft κ₂ q₂))) (returnedW ν δ ws (us .1 .1 .0) refl rk ln2st) $ await ! tt $ split ! $
         forget ! 37 refl $ forget ! 39 refl $
         keep ! (9 ∷ 10 ∷ 0 ∷ 1 ∷ 8 ∷ 4 ∷ 7 ∷ 3 ∷ 11 ∷ 12 ∷ 13 ∷ 14 ∷ 15 ∷ 16 ∷ 17 ∷ 18 ∷ 19 ∷ 20 ∷ 21 ∷ 22 ∷ 23 ∷ 24 ∷ 25 ∷ 26 ∷ 27 ∷ 28 ∷ 29 ∷ 30 ∷ 31 ∷ 32 ∷ 33 ∷ 34 ∷ 35 ∷ 36 ∷ 37 ∷ 38 ∷ 39 ∷ 40 ∷ 41 ∷ 42 ∷ 43 ∷ 44 ∷ 45 ∷ 46 ∷ 47 ∷ 48 ∷ 49 ∷ 50 ∷ 51 ∷ 52 ∷ 53 ∷ 54 ∷ 55 ∷ 56 ∷ 57 ∷ 58 ∷ 59 ∷ 60 ∷ 61 ∷ 62 ∷ 63 ∷ 64 ∷ []) $
-        looped (st, (ys, (us .1 .1 .0, (subst (λ (k : List Val). Is S.the-row st k) (LL.tells S.the-type S′.the-laws st _ is) is, (refl, (ln2st, e ys refl)))))) ))))))))
+        looped (st, (ys, (us .1 .1 .0, (subst (λ (k : List Val). Is S.the-row st k) (LL.tells S.the-type S′.the-laws st _ is) is, (refl, (ln2st, e ys refl))))))))))))))
 
   walk : (𝓣 : Tables 𝓤 H) → Room u8 (length (v₀ .now)) → Room u8 (length (v₁ .now)) → Room u8 L → Room u8 (length os) → Room T.the-row N → Triple 𝓤 (𝓣 .C #load) (Load 𝓤 H A mem run) → Triple 𝓤 (𝓣 .C #store) (Store 𝓤 H A mem run) → Triple 𝓤 (𝓣 .C #begin) (Begin 𝓤 H A mem run) → Triple 𝓤 (𝓣 .C #step) (Step 𝓤 H A mem run) → Triple 𝓤 (𝓣 .C #finish) (Finish 𝓤 H A mem run)
       → ent 𝓤 (onEntry 𝓤 H A build_pso.signature (κ₀, (κ₁, (κ₂, (κ₃, (κ₄, tt))))) (q₀, (q₁, (q₂, (q₃, (q₄, tt))))) a vals) (WpFn 𝓤 H (𝓣 .C) (𝓣 .Λ) code.function (s₀ ∷ s₁ ∷ s₂ ∷ s₃ ∷ s₄ ∷ []) Post)
@@ -553,7 +553,7 @@ module _ {M : Type 1} (𝓤 : URA M) (H : Heap 𝓤) (A : Atoms 𝓤) (W : Given
       assigns ! (addr ! (from ! (fld ! refl (hop ! (look-in ! 44 (sub ! 0 refl (whole !))) (stop !))))) (from ! (stop !)) (init ! 26 refl (tt, tt)) $
       assigns ! (agg ! (and-then ! (load ! (from ! (stop !)) (look ! 26 refl)) (and-then ! (load ! (from ! (fld ! refl (stop !))) (look-in ! 44 (sub ! 1 refl (whole !)))) (no-more !)))) (from ! (stop !)) (init ! 24 refl (tt, (tt, (record { fits = rk .0 }, tt)))) $
       move ! (53 ∷ []) $ fsplit ! $ move ! (1 ∷ []) $ fsplit ! $ move ! (1 ∷ []) $ fsplit ! $ move ! (1 ∷ []) $ fsplit ! $ move ! (1 ∷ []) $ fsplit ! $ move ! (58 ∷ []) $ split ! $ move ! (1 ∷ []) $ split ! $ move ! (1 ∷ []) $ split ! $ move ! (1 ∷ []) $ split ! $ move ! (1 ∷ []) $ split ! $ keep ! (6 ∷ 0 ∷ 9 ∷ 3 ∷ 11 ∷ 5 ∷ 10 ∷ 4 ∷ 8 ∷ 2 ∷ 12 ∷ 13 ∷ 14 ∷ 15 ∷ 16 ∷ 17 ∷ 18 ∷ 19 ∷ 20 ∷ 21 ∷ 22 ∷ 23 ∷ 24 ∷ 25 ∷ 26 ∷ 27 ∷ 28 ∷ 29 ∷ 30 ∷ 31 ∷ 32 ∷ 33 ∷ 34 ∷ 35 ∷ 36 ∷ 37 ∷ 38 ∷ 39 ∷ 40 ∷ 41 ∷ 42 ∷ 43 ∷ 44 ∷ 45 ∷ 46 ∷ 47 ∷ 48 ∷ 49 ∷ 50 ∷ 51 ∷ 52 ∷ 53 ∷ 54 ∷ 55 ∷ 56 ∷ 57 ∷ 58 ∷ 59 ∷ 60 ∷ 61 ∷ 62 ∷ 63 ∷ []) $
-      begun 𝓣 ru rl rk on-load on-store on-begin on-step on-finish l₀ l₁ l₂ l₃ l₄ l₅ l₆ l₇ l₈ l₉ l₁₀ l₁₁ l₁₂ l₁₃ l₁₄ l₁₅ l₁₆ l₁₇ l₁₈ l₁₉ l₂₀ l₂₁ l₂₂ l₂₃ l₂₄ l₂₅ ))))))))))))))))))))))))))
+      begun 𝓣 ru rl rk on-load on-store on-begin on-step on-finish l₀ l₁ l₂ l₃ l₄ l₅ l₆ l₇ l₈ l₉ l₁₀ l₁₁ l₁₂ l₁₃ l₁₄ l₁₅ l₁₆ l₁₇ l₁₈ l₁₉ l₂₀ l₂₁ l₂₂ l₂₃ l₂₄ l₂₅))))))))))))))))))))))))))
 
 module _ {M : Type 1} (𝓤 : URA M) (H : Heap 𝓤) (A : Atoms 𝓤) (W : Given 𝓤 H A) (mem : Memory → SProp 𝓤) (run : Routine → Fun 𝓤) (𝓣 : Tables 𝓤 H) (on-load : Triple 𝓤 (𝓣 .C #load) (Load 𝓤 H A mem run)) (on-store : Triple 𝓤 (𝓣 .C #store) (Store 𝓤 H A mem run)) (on-begin : Triple 𝓤 (𝓣 .C #begin) (Begin 𝓤 H A mem run)) (on-step : Triple 𝓤 (𝓣 .C #step) (Step 𝓤 H A mem run)) (on-finish : Triple 𝓤 (𝓣 .C #finish) (Finish 𝓤 H A mem run)) where
   build-pso-walks : Walks 𝓤 H A build_pso.ended stayed (WpFn 𝓤 H (𝓣 .C) (𝓣 .Λ) code.function) (build_pso.clauses 𝓤 H A mem run)
