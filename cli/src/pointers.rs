@@ -140,8 +140,11 @@ impl<'a> Walk<'a> {
         }
         self.pointers += 1;
         let Some(bytes) = self.pack.bytes(to.block) else {
-            let have = self.pack.blocks.len();
-            self.fault(at, format!("the pointer leads to block {}, of {have} or outside the data", to.block));
+            let why = match self.pack.blocks.len() {
+                n if to.block > n => format!("there are {n}"),
+                _ => "which lies outside the data".into(),
+            };
+            self.fault(at, format!("the pointer leads to block {}, {why}", to.block));
             return None;
         };
         match bytes.get(to.start..) {
@@ -166,7 +169,8 @@ impl<'a> Walk<'a> {
     fn room(&mut self, at: Place, to: Place, need: usize, rest: &[u8]) -> bool {
         if need > rest.len() {
             let left = rest.len();
-            self.fault(at, format!("{need} bytes at start 0x{:X} of block {}, which has {left}", to.start, to.block));
+            let (start, block) = (to.start, to.block);
+            self.fault(at, format!("{need} bytes are due at start 0x{start:X} of block {block}, {left} are there"));
         }
         need <= rest.len()
     }

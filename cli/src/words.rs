@@ -29,7 +29,7 @@ pub fn count(n: u64, one: &str) -> String {
     format!("{} {one}{}", commas(n), if n == 1 { "" } else { "s" })
 }
 
-/// "2 remarks", "1 entry", "2 entries".
+/// "1 entry", "2 entries".
 pub fn count_as(n: u64, one: &str, many: &str) -> String {
     format!("{} {}", commas(n), if n == 1 { one } else { many })
 }
