@@ -1,8 +1,9 @@
-/* Sandvurek: reading PSO files.
+/* Sandvurek: building and reading PSO files.
  *
- * A slice is passed as a pointer and a length in bytes. The pointer is not null, also where the length is 0, and the
- * bytes are readable for the whole call. No function writes to the file or keeps the pointer. Every function takes any
- * bytes; what each answers is proved equal to its definition in crates/sandvurek/specs/Exports.antt. */
+ * A slice is passed as a pointer and a length: bytes, or records for a list of remarks. The pointer is not null, also
+ * where the length is 0, and what it points to is readable for the whole call, and writable where it is not const; lent
+ * buffers do not overlap anything else. No function keeps a pointer. Every function takes any bytes; what each answers
+ * is proved equal to its definition in crates/sandvurek/specs/Exports.antt. */
 #ifndef SANDVUREK_H
 #define SANDVUREK_H
 
@@ -12,6 +13,37 @@
 #ifdef __cplusplus
 extern "C" {
 #endif
+
+/* What building gives. code 0: length is the file's, which stands at the front of the output, the rest of which is
+ * untouched; remarks is the number of remarks at the front of their list, the rest of which is zero. Else code is the
+ * refusal's number, the rest is 0, the output is untouched and all remarks are zero:
+ *    1  the sheet breaks its layout             8  a structure would start at depth 33
+ *    2  a text byte is above 127                9  the charge would pass its cap
+ *    3  the root is no Struct                  10  an item's block number or start is too large for a pointer
+ *    4  a section's length is wrong            11  a text reads as a decimal number where a number is wanted
+ *    5  a definition leaves its section        12  the work area is too short
+ *    6  a definition's top byte is unknown     13  the file is longer than the output or than 16,777,216 bytes
+ *    7  the root type has no definition        14  there are more different remarks than records */
+typedef struct {
+    uint32_t code;
+    size_t length;
+    size_t remarks;
+} sandvurek_outcome;
+
+/* What was left out of the file and why: README.md lists the kinds and their details. */
+typedef struct {
+    uint32_t kind;
+    uint32_t structure;
+    uint32_t member;
+    uint32_t detail;
+} sandvurek_remark;
+
+/* Builds a PSO file from a value sheet and the definitions of a schema file. The work area is 65,536 bytes and 8 for
+ * each index entry of the schema file, and 4 for each unit of charge, of which there are at most 4,194,304. It is zero
+ * after every call. */
+sandvurek_outcome sandvurek_build(const uint8_t *sheet, size_t sheet_length, const uint8_t *schema, size_t schema_length,
+                                  uint8_t *work, size_t work_length, uint8_t *out, size_t out_length,
+                                  sandvurek_remark *remarks, size_t records);
 
 /* What a file is. code 0: root is the block number of the root, data_at and data_length say where the data section
  * stands in the file (the last PSIN section, its head included), blocks is the number of blocks. Else code is the
