@@ -23,20 +23,20 @@ fn time(mut f: impl FnMut()) -> f64 {
 }
 
 /// Calls of the library with a work area of the given length.
-#[cfg(library)]
+#[cfg(builds)]
 fn library(scene: &Scene, work: usize, out: usize, records: usize) -> Option<f64> {
     use crate::model::state::Remark;
     let mut work = vec![1u8; work];
     let mut out = vec![1u8; out];
     let mut list = vec![Remark { kind: 0, structure: 0, member: 0, detail: 0 }; records];
-    let mut call = || crate::subject::library::call(&scene.sheet, &scene.schema, &mut work, &mut out, &mut list);
+    let mut call = || crate::subject::building::call(&scene.sheet, &scene.schema, &mut work, &mut out, &mut list);
     assert_eq!(call().0, 0, "{} is refused", scene.name);
     Some(time(|| {
         black_box(call());
     }))
 }
 
-#[cfg(not(library))]
+#[cfg(not(builds))]
 fn library(_scene: &Scene, _work: usize, _out: usize, _records: usize) -> Option<f64> {
     None
 }

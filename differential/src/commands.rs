@@ -14,6 +14,7 @@ use std::fs::File;
 use std::io::{self, BufReader, BufWriter, Write};
 
 const HELP: &str = "differential/run [SEED [COUNT]] [options]     compares COUNT cases and a third as many files (default: 1 100000)
+differential/run files SEED COUNT             compares COUNT files for the reader
 differential/run stream SEED COUNT FILE       writes requests for a program that is run by itself
 differential/run expect REQUESTS REPLIES      writes the replies that the model expects
 differential/run judge REQUESTS REPLIES       compares replies with what the model expects
@@ -85,6 +86,14 @@ fn command(o: &Options) -> Result<i32, String> {
             println!("{HELP}");
             Ok(0)
         }
+        ["files", seed, count] => {
+            let mut stats = Stats::new();
+            let mut subject = announced(o, number(seed)?);
+            let same = compare_files(o, number(seed)?, number(count)?, &mut subject, &mut stats);
+            stats.print_files();
+            println!("{}", if same { "no difference" } else { "a difference" });
+            Ok(!same as i32)
+        }
         ["stream", seed, count, path] => write_stream(number(seed)?, number(count)?, o.size.unwrap_or(Size::Small), path).map_err(io).map(|_| 0),
         ["expect", requests, replies] => expect(requests, replies).map_err(io).map(|_| 0),
         ["judge", requests, replies] => judge(requests, replies).map_err(io),
@@ -141,17 +150,41 @@ fn linked() -> Option<Box<dyn Subject>> {
     None
 }
 
-fn compare_all(o: &Options, seed: u64, count: u64) -> Result<i32, String> {
-    let size = o.size.unwrap_or(Size::Full);
-    let mut subject: Option<Box<dyn Subject>> = match &o.process {
+/// What is under test; says so.
+fn announced(o: &Options, seed: u64) -> Option<Box<dyn Subject>> {
+    let subject: Option<Box<dyn Subject>> = match &o.process {
         Some(c) => Some(Box::new(Process::new(c))),
         None => linked(),
     };
-    match (&o.process, subject.is_some()) {
+    match (&o.process, &subject) {
         (Some(c), _) => println!("model, reference and the program `{c}`; seed {seed}"),
-        (None, true) => println!("model, reference and library; seed {seed}"),
-        (None, false) => println!("model and reference only: there is no library yet; seed {seed}"),
+        (None, Some(s)) if s.builds() => println!("model, reference and library; seed {seed}"),
+        (None, Some(_)) => println!("model and reference, and the library's reader: it doesn't build yet; seed {seed}"),
+        (None, None) => println!("model and reference only: there is no library yet; seed {seed}"),
     }
+    subject
+}
+
+/// Files for the reader; whether all agree.
+fn compare_files(o: &Options, seed: u64, count: u64, subject: &mut Option<Box<dyn Subject>>, stats: &mut Stats) -> bool {
+    for n in o.from..o.from + count {
+        let file = file_of(seed, n, o.size.unwrap_or(Size::Full));
+        match compare::read_file(&file, subject, stats) {
+            Ok(r) => stats.files[r.err().unwrap_or(0) as usize] += 1,
+            Err(e) => {
+                println!("DIFFERENCE in file {n} of seed {seed}: {e}");
+                let mut fails = |f: &[u8]| compare::read_file(f, subject, &mut Stats::new()).is_err();
+                println!("file {}", hex(&shrink::shrink_file(&file, &mut fails)));
+                return false;
+            }
+        }
+    }
+    true
+}
+
+fn compare_all(o: &Options, seed: u64, count: u64) -> Result<i32, String> {
+    let size = o.size.unwrap_or(Size::Full);
+    let mut subject = announced(o, seed);
     let mut stats = Stats::new();
     for n in o.from..o.from + count {
         let (case, generous, family) = case_of(seed, n, size);
@@ -163,17 +196,8 @@ fn compare_all(o: &Options, seed: u64, count: u64) -> Result<i32, String> {
             return Ok(1);
         }
     }
-    for n in o.from..o.from + count / 3 {
-        let file = file_of(seed, n, size);
-        match compare::read_file(&file, &mut subject, &mut stats) {
-            Ok(r) => stats.files[r.err().unwrap_or(0) as usize] += 1,
-            Err(e) => {
-                println!("DIFFERENCE in file {n} of seed {seed}: {e}");
-                let mut fails = |f: &[u8]| compare::read_file(f, &mut subject, &mut Stats::new()).is_err();
-                println!("file {}", hex(&shrink::shrink_file(&file, &mut fails)));
-                return Ok(1);
-            }
-        }
+    if !compare_files(o, seed, count / 3, &mut subject, &mut stats) {
+        return Ok(1);
     }
     stats.print(o.branches);
     println!("no difference");
@@ -185,7 +209,7 @@ fn report(case: &Case, subject: &mut Option<Box<dyn Subject>>) {
     let mut last = String::new();
     let by_itself = |c: &Case, subject: &mut Option<Box<dyn Subject>>| {
         let outcome = build(&c.sheet, &c.schema, &c.limits);
-        subject.as_mut().map_or(Ok(()), |s| compare::against_subject(c, &outcome, s.as_mut()))
+        subject.as_mut().filter(|s| s.builds()).map_or(Ok(()), |s| compare::against_subject(c, &outcome, s.as_mut()))
     };
     // Where the call by itself fails, the other checks are left out.
     let alone = by_itself(case, subject).is_err();

@@ -17,7 +17,7 @@ pub fn check(case: &Case, generous: &Outcome, subject: &mut Option<Box<dyn Subje
     let limited = build(&case.sheet, &case.schema, &case.limits);
     stats.outcome(generous, &limited);
     consistent(generous, &limited)?;
-    if let Some(s) = subject {
+    if let Some(s) = subject.as_mut().filter(|s| s.builds()) {
         against_subject(case, &limited, s.as_mut())?;
         stats.tested += 1;
     }
@@ -209,7 +209,7 @@ fn rebuild(case: &Case, pack: &Pack, subject: &mut Option<Box<dyn Subject>>, sta
             format!("sheet {} schema {}", hex(&case.sheet), hex(&case.schema))
         });
     }
-    if let Some(s) = subject {
+    if let Some(s) = subject.as_mut().filter(|s| s.builds()) {
         against_subject(&tight, &outcome, s.as_mut()).map_err(|e| format!("rebuild: {e}"))?;
     }
     let tree = reference::tree(&case.sheet);

@@ -29,6 +29,12 @@ pub struct Stats {
     pub hits: Hits,
 }
 
+/// Counts by answer.
+fn codes(c: &[u64; 19]) -> String {
+    let list = c.iter().enumerate().filter(|(_, n)| **n > 0);
+    list.map(|(k, n)| if k == 0 { format!("success {n}") } else { format!("{k}: {n}") }).collect::<Vec<_>>().join(", ")
+}
+
 impl Stats {
     pub fn new() -> Stats {
         Stats {
@@ -67,19 +73,23 @@ impl Stats {
         }
     }
 
+    /// What the reader was given.
+    pub fn print_files(&self) {
+        println!("reader files          {}", codes(&self.files));
+        println!("library, files        {} compared", self.files_tested);
+        for (what, e) in &self.explained {
+            let smallest = e.smallest.as_ref().map_or("", |(_, s)| s.as_str());
+            println!("intended difference   {what}: {} times; smallest {smallest}", e.count);
+        }
+    }
+
     pub fn print(&self, branches: bool) {
-        let codes = |c: &[u64; 19]| {
-            let list = c.iter().enumerate().filter(|(_, n)| **n > 0);
-            list.map(|(k, n)| if k == 0 { format!("success {n}") } else { format!("{k}: {n}") }).collect::<Vec<_>>().join(", ")
-        };
         println!("cases                 {}", self.cases);
         println!("with generous limits  {}", codes(&self.generous));
         println!("with their limits     {}", codes(&self.limited));
         println!("model and reference   {} compared", self.compared);
         println!("library               {} compared", self.tested);
         println!("read, tiled, rebuilt  {}", self.demand3);
-        println!("reader files          {}", codes(&self.files));
-        println!("library, files        {} compared", self.files_tested);
         println!("float texts           {} held against the parse of std", self.texts);
         let remarks: Vec<String> = (1..14).map(|k| format!("{k}: {}", self.remarks[k])).collect();
         println!("remarks by kind       {}", remarks.join(", "));
@@ -88,10 +98,7 @@ impl Stats {
         if branches {
             self.print_branches();
         }
-        for (what, e) in &self.explained {
-            let smallest = e.smallest.as_ref().map_or("", |(_, s)| s.as_str());
-            println!("intended difference   {what}: {} times; smallest {smallest}", e.count);
-        }
+        self.print_files();
         for b in self.hits.unreached() {
             println!("never reached         {b}");
         }

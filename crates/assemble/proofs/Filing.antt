@@ -2,12 +2,12 @@
 use Prim.Native.Nat.{ℕ, _+_, _-_, _*_, _%_, _^_, _≤_, _<_}
 use native.Mathlib.Omega.{arith}
 use mathlib.Core.Path.{_≡_, refl, sym, _∙_, ap, ap₂, subst}
-use mathlib.Core.Bool.{Bool, true, false}
+use mathlib.Core.Bool.{Bool, true, false, _||_}
 use mathlib.Core.List.{List, [], _∷_, _++_, append-assoc}
-use lib.Dec.{leb}
+use lib.Dec.{ltb, leb}
 use lib.ListN.{length, take, drop, length-append, length-drop, take-append-drop}
-use lib.Seq.{length-take-le, drop-drop}
-use borrow.Author.Tests.{leb-true, leb-false}
+use lib.Seq.{length-take-le}
+use borrow.Author.Tests.{leb-true, leb-false, lt-ltb}
 use borrow.Rule.Slice.PartMut.{putMid}
 use Rattle.numbers.specs.Words.{Bytes, words, over}
 use Rattle.numbers.specs.Result.{isSome}
@@ -18,11 +18,10 @@ use Rattle.layout.specs.Demand3.{Every}
 use Rattle.layout.specs.Assemble.{Records, recordsOf, usedOf, dataOf, psinOf, pmapOf, pschBytes, fileOf}
 use Rattle.layout.proofs.Blocks.{ShortNames}
 use Rattle.layout.proofs.Places.{total, data-total, psin-length}
-use Rattle.layout.proofs.ReadDefs.{bodies}
 use Rattle.layout.proofs.ReadSchema.{pmap-length, file-length}
 use Rattle.area.specs.declared.Round.{Round}
 use Rattle.area.specs.declared.Progress.{Progress}
-use Rattle.area.specs.Segments.{Segment, flat}
+use Rattle.area.specs.Segments.{flat}
 use Rattle.area.specs.Rows.{namesIn}
 use Rattle.area.specs.Kept.{kept, rowsBytes}
 use Rattle.area.specs.Area.{rowsOf, encode, itemsAt, stackAt, Small}
@@ -34,12 +33,26 @@ use Rattle.area.proofs.Over.{over-mid, over-part, over-seq, length-over}
 use Rattle.area.proofs.Spots.{length-rowsOf}
 use Rattle.assemble.specs.Map.{Whole, placesOf}
 use Rattle.assemble.specs.Used.{recordsFor, sizeOf, Counts}
-use Rattle.assemble.specs.Packed.{usedRecords, AllStored, Holds, Fitting, tableAt, InUse}
+use Rattle.assemble.specs.Packed.{usedRecords, AllStored, Holds, tableAt, InUse}
 use Rattle.assemble.proofs.Maps.{over-none, count-places}
 use Rattle.assemble.proofs.Heads.{stands-behind}
 use Rattle.assemble.proofs.Listing.{count-records}
 use Rattle.assemble.proofs.Schemas.{structRecords, enumRecords, used-size}
 use Rattle.assemble.proofs.Holding.{each, used-records, structs-stored, enums-stored}
+
+-- a length that was counted so far judges 13 as the file's length does
+pub judged : (r x out : ℕ) → Counts r x → (ltb out r || ltb 16777216 r) ≡ (ltb out x || ltb 16777216 x)
+judged r x out c = go (leb r 16777216) refl
+  where
+    or-true : (b : Bool) → (b || true) ≡ true
+    or-true true = refl
+    or-true false = refl
+
+    go : (t : Bool) → leb r 16777216 ≡ t → (ltb out r || ltb 16777216 r) ≡ (ltb out x || ltb 16777216 x)
+    go true q = ap (λ (n : ℕ). ltb out n || ltb 16777216 n) (c .exact (leb-true r 16777216 q))
+    go false q =
+        let l = leb-false r 16777216 q in
+        ap (λ (b : Bool). ltb out r || b) (lt-ltb 16777216 r l) ∙ or-true (ltb out r) ∙ sym (ap (λ (b : Bool). ltb out x || b) (lt-ltb 16777216 x (c .long l)) ∙ or-true (ltb out x))
 
 short-names : (bs : List Block) → Every Small bs → ShortNames bs
 short-names [] h = tt

@@ -1,42 +1,25 @@
 -- What stands in a work area that holds a state, and the file that is made of it. Assumes nothing.
-use Prim.Native.Nat.{ℕ, _+_, _-_, _*_, _%_, _^_, _≤_, _<_}
+use Prim.Native.Nat.{ℕ, _+_, _-_}
 use native.Mathlib.Omega.{arith}
-use mathlib.Core.Path.{_≡_, refl, sym, _∙_, ap, ap₂, subst}
+use mathlib.Core.Path.{_≡_, refl, sym, _∙_, ap, ap₂}
 use mathlib.Core.Bool.{Bool, true, false, cond}
-use mathlib.Core.List.{List, [], _∷_, _++_, map, append-assoc}
+use mathlib.Core.List.{List, [], _∷_, _++_, map}
 use mathlib.Core.Option.{Option, none, some}
 use lib.Dec.{eqb}
-use lib.ListN.{length, length-append}
 use borrow.Author.Tests.{eq-eqb}
-use Rattle.numbers.specs.Words.{Bytes, words, over}
+use Rattle.numbers.specs.Words.{Bytes}
 use Rattle.numbers.specs.Result.{ok, isSome, mapOption, orValue}
-use Rattle.numbers.proofs.Bytes.{Stands, Below, length-words}
 use Rattle.schema.specs.Defs.{Schema, winning}
 use Rattle.schema.specs.Psch.{schemaOf, structHere, enumHere}
 use Rattle.schema.specs.Index.{lastPlace}
 use Rattle.schema.specs.Answers.{foundIs}
 use Rattle.schema.specs.declared.lookup.Found.{Found}
 use Rattle.schema.specs.declared.lookup.Found.the-variants.{At, Nothing}
-use Rattle.schema.proofs.Bounds.{All}
 use Rattle.schema.proofs.Finds.{winning-struct, winning-enum}
-use Rattle.layout.specs.State.{Block, Core, State, contains}
+use Rattle.layout.specs.State.{Core, contains}
 use Rattle.layout.specs.Demand3.{Every}
-use Rattle.layout.specs.Assemble.{structBytes, enumBytes, Records, recordsOf, found, consOption, usedOf, dataOf, psinOf, pmapOf, pschBytes, fileOf}
-use Rattle.layout.proofs.Blocks.{ShortNames}
-use Rattle.layout.proofs.Places.{total, data-total, psin-length}
-use Rattle.layout.proofs.ReadDefs.{bodies}
-use Rattle.layout.proofs.ReadSchema.{pmap-length, file-length}
-use Rattle.area.specs.declared.Round.{Round}
-use Rattle.area.specs.declared.Progress.{Progress}
-use Rattle.area.specs.Rows.{namesIn}
-use Rattle.area.specs.Kept.{kept, rowsBytes}
-use Rattle.area.specs.Area.{rowsOf, encode, itemsAt, stackAt, Small, Rep}
-use Rattle.area.specs.Posts.{Safe}
-use Rattle.area.proofs.Flat as flat
-use Rattle.area.proofs.Names.{names-stand}
-use Rattle.area.proofs.Spots.{length-rowsOf}
-use Rattle.assemble.specs.Used.{kindOf, definitionAt, bodyOf, recordsFor, Lies, Stored, Counts}
-use Rattle.assemble.specs.Packed.{usedRecords, AllStored, Holds}
+use Rattle.layout.specs.Assemble.{structBytes, enumBytes, Records, recordsOf, found, consOption, usedOf}
+use Rattle.assemble.specs.Used.{kindOf, definitionAt, bodyOf, recordsFor, Lies, Stored}
 use Rattle.assemble.proofs.Lying.{found-lies}
 
 -- what the names stand for

@@ -29,14 +29,14 @@ cleared xs ys c a k at h g e =
     ap (λ (x : Bytes). over x at (zeros k)) (flat.push xs ys c a (k - length a) (omega (arith, h, g))) ∙ flat.pop xs ys c [] (a ++ z) k at l (omega (arith, g)) (omega (arith, e))
 
 -- segments that hold nothing
-abbrev bare : List ℕ → List Segment
+abbrev pub bare : List ℕ → List Segment
 bare [] = []
 bare (c ∷ cs) = (c, []) ∷ bare cs
 
 padded-none : (c : ℕ) → padded c [] ≡ zeros c
 padded-none c = let z : c - 0 ≡ c = omega arith in flat.padded-is c [] (omega arith) ∙ ap zeros z
 
-bare-zeros : (cs : List ℕ) → flat (bare cs) ≡ zeros (rooms (bare cs))
+pub bare-zeros : (cs : List ℕ) → flat (bare cs) ≡ zeros (rooms (bare cs))
 bare-zeros [] = refl
 bare-zeros (c ∷ cs) = ap₂ (λ (x y : Bytes). x ++ y) (padded-none c) (bare-zeros cs) ∙ replicate-append-replicate c (rooms (bare cs)) 0
 

@@ -16,7 +16,7 @@ use Rattle.layout.proofs.Writers.{Defined, Prims}
 
 -- a claim on the core and on the names of blocks
 abbrev pub onCore : (ℕ → Type 0) → (Core → Type 0) → Claim
-onCore N Q = record { holds = λ s. Q (s .core); refused = λ es. Unit {0}; files = N }
+onCore N Q = record { holds = λ s. Q (s .core); refused = λ n es. Unit {0}; files = N }
 
 -- items are filed under names that N allows
 pub record Allows (E : Env) (N : ℕ → Type 0) : Type 0 where
@@ -102,7 +102,7 @@ module _ (N : ℕ → Type 0) (Q : Core → Type 0) where
   core-prims E al hs hu ha =
       record {
         starts = Defined E;
-        refusable = λ s q. tt;
+        refusable = λ n s x y q. tt;
         remark-keeps = c-remark;
         pay-keeps = c-pay E;
         struct-keeps = λ d k. c-useStruct (d .name) (λ c q. hs d c k q);

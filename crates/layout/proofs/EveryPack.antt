@@ -17,7 +17,7 @@ use Rattle.layout.proofs.Tiling.{tiled}
 use Rattle.layout.proofs.Places.{blocks-tiled, items-tiled, items-stand}
 use Rattle.layout.proofs.Root.{root-last}
 use Rattle.layout.proofs.Uses.{carries-used}
-use Rattle.layout.proofs.ReadBack.{reads, reads-used, data-first}
+use Rattle.layout.proofs.ReadBack.{reads, reads-used, data-at-front, data-first}
 use Rattle.layout.proofs.Rebuild.{rebuilds}
 
 -- of the file of a layout
@@ -36,6 +36,7 @@ laid-holds T S work out records l o e short small =
       read = readBack l;
       accepts = reads T S work l m o small;
       readsLaid = refl;
+      dataAtFront = data-at-front T S work l m o small;
       dataFirst = data-first T S work l m o small;
       blocksTile = blocks-tiled c t;
       itemsTile = items-tiled c t;

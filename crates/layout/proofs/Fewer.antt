@@ -137,7 +137,7 @@ module _ (R : Fewer) where
   -- what held at the end held before
 
   pub b-refusable : (s₀ : State) → Refusable (back D s₀)
-  b-refusable s₀ s p = tt
+  b-refusable s₀ n s x y p = tt
 
   pub b-pay : (s₀ : State) (n : ℕ) → Keeps (back D s₀) (pay E n)
   b-pay s₀ n = prims s₀ .pay-keeps n

@@ -41,7 +41,7 @@ extends-then es fs gs a b =
 
 -- the claim that the events are es and more, at an answer and at a refusal
 abbrev pub growing : List Remark → Claim
-growing es = record { holds = λ s. Extends es (s .events); refused = Extends es; files = λ n. Unit {0} }
+growing es = record { holds = λ s. Extends es (s .events); refused = λ n. Extends es; files = λ n. Unit {0} }
 
 paid : (es : List Remark) (s : State) (n : ℕ) (b : Bool) → Extends es (s .events) → Okay (growing es) (cond b (done (tt {0}) (withCharge (s .charge + n) s)) (stop 9 (s .events)))
 paid es s n true x = x
@@ -58,7 +58,7 @@ unfolding Keeps remark pay useStruct useEnum addItem bind after logStart logEnum
 grow-prims E es =
     record {
       starts = λ d. Unit {0};
-      refusable = λ s x. x;
+      refusable = λ n s a b x. x;
       remark-keeps = λ r s x. extends-then es (s .events) (s .events ++ (r ∷ [])) x (record { further = r ∷ []; split = refl });
       pay-keeps = λ n s x. paid es s n (leb (s .charge + n) (E .chargeCap)) x;
       struct-keeps = λ d k s x. x;

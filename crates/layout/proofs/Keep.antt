@@ -1,6 +1,7 @@
 -- What an action keeps: rules for a claim on states, one for each way to put actions together, and the claims that are made.
 -- Assumes nothing.
-use Prim.Native.Nat.{ℕ}
+use Prim.Native.Nat.{ℕ, _≤_}
+use native.Mathlib.Omega.{arith}
 use mathlib.Core.Bool.{Bool, true, false}
 use mathlib.Core.Path.{_≡_, refl}
 use mathlib.Core.List.{List}
@@ -11,19 +12,19 @@ use Rattle.coerce.specs.Numbers.{Fit, fits, unfit, floatText}
 use Rattle.layout.specs.State.{State, Out, done, stop, M, Remark, after, bind, ret, fail, ifM, optM, fitM}
 use Rattle.layout.specs.Runs.{Run}
 
--- what is claimed of a state, of the events before a refusal, of the names of the blocks that items are filed in
+-- what is claimed of a state, of a refusal's number and the events before it, of the names of the blocks that items are filed in
 pub record Claim : Type 1 where
   pub holds : State → Type 0
-  pub refused : List Remark → Type 0
+  pub refused : ℕ → List Remark → Type 0
   pub files : ℕ → Type 0
 
 -- a claim on states alone
 abbrev pub always : (State → Type 0) → Claim
-always P = record { holds = P; refused = λ es. Unit {0}; files = λ n. Unit {0} }
+always P = record { holds = P; refused = λ n es. Unit {0}; files = λ n. Unit {0} }
 
 abbrev pub Okay : {A : Type 0} → Claim → Out A → Type 0
 Okay C (done a s) = C .holds s
-Okay C (stop n es) = C .refused es
+Okay C (stop n es) = C .refused n es
 
 -- where the claim holds before the action it holds after it
 unfoldable pub Keeps : {A : Type 0} → Claim → M A → Type 0
@@ -33,23 +34,26 @@ Keeps C m = (s : State) → C .holds s → Okay C (m s)
 abbrev pub OkayRun : Claim → Out (Option Run) → Type 0
 OkayRun C (done none s) = C .holds s
 OkayRun C (done (some r) s) = C .files (r .block) × C .holds s
-OkayRun C (stop n es) = C .refused es
+OkayRun C (stop n es) = C .refused n es
 
 unfoldable pub KeepsRun : Claim → M (Option Run) → Type 0
 KeepsRun C m = (s : State) → C .holds s → OkayRun C (m s)
 
--- what holds of a state may be said of its events at a refusal
+-- what holds of a state may be said of its events at a refusal; writing refuses with 8 to 11
 abbrev pub Refusable : Claim → Type 0
-Refusable C = (s : State) → C .holds s → C .refused (s .events)
+Refusable C = (n : ℕ) (s : State) → 8 ≤ n → n ≤ 11 → C .holds s → C .refused n (s .events)
 
 module _ (C : Claim) where
   pub k-ret : {A : Type 0} (a : A) → Keeps C (ret a)
   unfolding Keeps ret
   k-ret a s p = p
 
-  pub k-fail : (A : Type 0) (n : ℕ) → Refusable C → Keeps {A = A} C (fail n)
+  pub k-fail : (A : Type 0) (n : ℕ) → ((s : State) → C .holds s → C .refused n (s .events)) → Keeps {A = A} C (fail n)
   unfolding Keeps fail
   k-fail A n z s p = z s p
+
+  pub k-deep : (A : Type 0) → Refusable C → Keeps {A = A} C (fail 8)
+  k-deep A z = k-fail A 8 (λ s p. z 8 s (omega arith) (omega arith) p)
 
   k-after : {A B : Type 0} (k : A → M B) → ((a : A) → Keeps C (k a)) → (o : Out A) → Okay C o → Okay C (after o k)
   unfolding Keeps after
@@ -79,7 +83,7 @@ module _ (C : Claim) where
   unfolding fitM
   k-fit {A = A} (fits x) m f z hm hf = hf x
   k-fit {A = A} unfit m f z hm hf = hm
-  k-fit {A = A} floatText m f z hm hf = k-fail A 11 z
+  k-fit {A = A} floatText m f z hm hf = k-fail A 11 (λ s p. z 11 s (omega arith) (omega arith) p)
 
   -- the same for runs
 
@@ -132,4 +136,4 @@ module _ (C : Claim) where
   unfolding Keeps KeepsRun bind
   l-bind m n k h hn hk s p = l-after n k hn hk (m s) (h s p)
 
-pub ruleset steps = (k-ret, k-fail, k-bind, k-if, k-opt, k-fit)
+pub ruleset steps = (k-ret, k-deep, k-bind, k-if, k-opt, k-fit)

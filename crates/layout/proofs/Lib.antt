@@ -7,6 +7,8 @@ pub mod CoreOnly
 -- a definition that a name stands for has that name; a layout, a building and what they are made of
 pub mod Named
 pub mod Made
+-- the numbers of refusals
+pub mod Refusals
 -- blocks and items: items tile their blocks, blocks tile the data, bytes stand where pointers say, the root is laid last
 pub mod Items
 pub mod Tiling

@@ -15,6 +15,7 @@ use Rattle.schema.specs.Defs.{Lookup}
 use Rattle.schema.specs.Psch.{Def, pschOf, schemaFrom, schemaOf}
 use Rattle.schema.proofs.Bounds.{Fits, winning-fits}
 use Rattle.pso.specs.Reader as R
+use Rattle.pso.specs.Answers.{dataFrom, dataAt}
 use Rattle.layout.specs.State.{Block, Core}
 use Rattle.layout.specs.Assemble.{dataOf, psinOf, pmapOf, usedOf, fileOf}
 use Rattle.layout.specs.Build.{Laid, packed}
@@ -60,6 +61,11 @@ module _ (L : Lookup) (p : ℕ) (c : Core) where
       (reads-defs L p c f h)
       ∙ ap (λ K. ok (record { root = p % 4096; data′ = psinOf (dataOf c); blocks = placesFrom 16 (c .blocks); schema = K })) (apart (usedOf L c)))
 
+  -- of its sections only the first is named PSIN
+  pub at-front : length (fileOf L p c) < 256 ^ 4 → dataAt (fileOf L p c) ≡ 0
+  unfolding dataAt dataFrom
+  at-front h = ap (λ ss. dataFrom ss 0 0) (file-sections L p c h)
+
 -- of every layout whose file is not too long
 
 module _ (T S : Bytes) (work : ℕ) (l : Laid) (m : Made T S work l) (o : Octets S) (h : length (packed l .file) ≤ 16777216) where
@@ -78,6 +84,10 @@ module _ (T S : Bytes) (work : ℕ) (l : Laid) (m : Made T S work l) (o : Octets
   reads-used = reads-schema (l .defs) (l .pointer) (l .state .core) fits (omega (arith, h))
 
   -- the data is the front of the file
+  pub data-at-front : dataAt (packed l .file) ≡ 0
+  unfolding packed
+  data-at-front = at-front (l .defs) (l .pointer) (l .state .core) (omega (arith, h))
+
   pub data-first : take (length (readBack l .data′)) (packed l .file) ≡ readBack l .data′
   unfolding packed readBack fileOf
   data-first = take-append-seam (psinOf (dataOf (l .state .core))) _

@@ -146,7 +146,7 @@ unfolding Keeps remark pay useStruct useEnum bind after logStart logEnum changes
 logged-prims E =
     record {
       starts = Defined E;
-      refusable = λ s q. tt;
+      refusable = λ n s x y q. tt;
       remark-keeps = λ r s q. record { structs = q .structs; enums = q .enums };
       pay-keeps = λ n s q. paid s n (leb (s .charge + n) (E .chargeCap)) q;
       struct-keeps = λ d k s q. record { structs = entered (d .name) (s .core .structs) (s .uses .started) (q .structs); enums = q .enums };

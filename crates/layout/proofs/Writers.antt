@@ -20,7 +20,7 @@ use Rattle.layout.specs.Kinds
 use Rattle.layout.specs.Members.{says, leaves, need, wrong, scalarMember, addString, textSlot, fixedMember, pointerMember, hashMember, textMember, useEnumOf, namedMember, enumMember, flagsMember}
 use Rattle.layout.specs.Runs.{Writer, Run, scalarBlock, elements, run, stops, pointed, pointerElement, structElement, textElement, fixedElement, hashElement, enumElement, scalarElement, structRun, fixedRun, textRun, enumRun, elementRun}
 use Rattle.layout.specs.Write.{inlineMember, pointedMember, structMember, laidRun, pointedArray, embeddedArray, arrayOf, arrayMember, pairElement, mapOf, mapMember, member, members, started, body, write, root}
-use Rattle.layout.proofs.Keep.{Claim, Keeps, KeepsRun, Refusable, k-ret, k-fail, k-bind, k-if, k-opt, k-when, k-fit, r-none, r-map, r-bind, r-if, r-opt, l-bind}
+use Rattle.layout.proofs.Keep.{Claim, Keeps, KeepsRun, Refusable, k-ret, k-deep, k-bind, k-if, k-opt, k-when, k-fit, r-none, r-map, r-bind, r-if, r-opt, l-bind}
 
 small-cond : (N : ℕ → Type 0) (b : Bool) (x y : ℕ) → N x → N y → N (cond b x y)
 small-cond N true x y p q = p
@@ -50,8 +50,8 @@ module _ (E : Env) (C : Claim) (h : Prims E C) where
   add-text : (bs : Bytes) → Keeps C (addItem 1 bs)
   add-text bs = h .add-keeps 1 bs (h .small 1 (omega arith))
 
-  k-fails : (A : Type 0) (n : ℕ) → Keeps {A = A} C (fail n)
-  k-fails A n = k-fail C A n (h .refusable)
+  k-fails : (A : Type 0) → Keeps {A = A} C (fail 8)
+  k-fails A = k-deep C A (h .refusable)
 
   k-fitting : {X A : Type 0} (o : Fit X) (m : M A) (f : X → M A) → Keeps C m → ((x : X) → Keeps C (f x)) → Keeps C (fitM o m f)
   k-fitting o m f = k-fit C o m f (h .refusable)

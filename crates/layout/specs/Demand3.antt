@@ -14,6 +14,7 @@ use Rattle.value.specs.Rows.{row}
 use Rattle.schema.specs.Defs.{Schema, Lookup, structName, enumName, winning}
 use Rattle.schema.specs.Psch.{schemaOf}
 use Rattle.pso.specs.Reader as R
+use Rattle.pso.specs.Answers.{dataAt}
 use Rattle.layout.specs.State.{Item, Block, Uses, contains, pointerTo}
 use Rattle.layout.specs.Members.{nth}
 use Rattle.layout.specs.Assemble.{itemsIn, dataOf, psinOf, usedOf}
@@ -57,10 +58,11 @@ ItemsTile at (i ∷ is) end = (i .start ≡ at) × ItemsTile (at + length (i .by
 abbrev pub pointerOf : Item → ℕ
 pointerOf i = pointerTo (i .block) (i .start)
 
--- the block number and the start that a pointer says
+-- the block number that a pointer says
 abbrev pub pointerBlock : ℕ → ℕ
 pointerBlock p = p % 4096
 
+-- the start that a pointer says
 abbrev pub pointerStart : ℕ → ℕ
 pointerStart p = p / 4096
 
@@ -133,6 +135,7 @@ pub record Demand3 (T S : Bytes) (work out records : ℕ) (F : Bytes) : Type 0 w
   -- and reads exactly the root's block number, the data, the blocks and the definitions that were laid
   pub readsLaid : read ≡ readBack laid
   -- "PSIN, PMAP and PSCH, .. in that order": the data that is read is the front of F, so places in it are places in F
+  pub dataAtFront : dataAt F ≡ 0
   pub dataFirst : take (length (read .data′)) F ≡ read .data′
   -- "Block 1 starts at byte 16 of PSIN, each further block where the one before ends, and the last ends with PSIN."
   pub blocksTile : BlocksTile 16 (read .blocks) (length (read .data′))

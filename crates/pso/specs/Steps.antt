@@ -1,11 +1,14 @@
 -- What the contracts of single steps say: of one section, and of a PMAP section's rows.
 use Prim.Native.Nat.{ℕ, _+_, _*_, _≤_}
 use mathlib.Core.Path.{_≡_}
+use mathlib.Core.Bool.{cond}
 use mathlib.Core.List.{List}
 use mathlib.Core.Option.{Option, none, some}
+use lib.Dec.{eqb}
 use lib.ListN.{length, take, drop}
 use Rattle.numbers.specs.Words.{Bytes, readAt}
 use Rattle.numbers.specs.Result.{Result, ok, refused, mapResult}
+use Rattle.schema.specs.Sections.{PSIN}
 use Rattle.schema.specs.declared.check.Checked.{Checked}
 use Rattle.schema.specs.declared.check.Checked.the-variants as C
 use Rattle.pso.specs.Reader.{Block, Seen, blocksAt, seeSection}
@@ -78,3 +81,4 @@ defsSaw (C.Refused n) s = S.Refused n
 pub record Sees (F : Bytes) (place len : ℕ) (s : State) (r : Saw) : Type 0 where
   pub says : (t : Seen) → view t ≡ stateIs F s → mapResult view (seeSection (readAt 4 F place) (take len (drop place F)) t) ≡ sawIs F r
   pub few : (x : State) → r ≡ S.Next x → x .blocks ≤ s .blocks + len
+  pub body : (x : State) → r ≡ S.Next x → x .body ≡ cond (eqb (readAt 4 F place) PSIN) (P.At place len) (s .body)

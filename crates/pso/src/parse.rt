@@ -11,7 +11,7 @@ ghost use Prim.Native.Nat.{ℕ, _+_, _^_, _≤_, _<_};
 ghost use lib.ListN.{length};
 ghost use Rattle.numbers.specs.Result.{mapResult};
 ghost use Rattle.pso.specs.Reader.{parsePso};
-ghost use Rattle.pso.specs.Answers.{shown, parsedIs, finishIs};
+ghost use Rattle.pso.specs.Answers.{shown, parsedIs, answered, finishIs};
 ghost use Rattle.pso.specs.Steps.{mapSaw, defsSaw, Sees};
 ghost use Rattle.pso.specs.declared.blocks.Rows.the-variants.{Table};
 
@@ -129,6 +129,7 @@ fn finish(body: Part, root: Root, blocks: usize) -> Parsed
 // `parse_pso`.
 pub fn parse_pso(file: &[u8]) -> Parsed
     ensures { λ r. ⌜ mapResult shown (parsePso (now (file .entry))) ≡ parsedIs (now (file .entry)) r ⌝ }
+    ensures { λ r. ⌜ r ≡ answered (now (file .entry)) (parsePso (now (file .entry))) ⌝ }
 {
     if file.len() < 4 {
         return Parsed::Refused(15);

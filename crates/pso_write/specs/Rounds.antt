@@ -91,3 +91,8 @@ pub record Laid (T F : Bytes) (size room : ℕ) (j : Job) (len : ℕ) (w : Bytes
   pub fits : len ≤ size
   pub small : len ≤ 16777216
   pub builds : build T F (length w) size room ≡ ok (packed (record { state = state; pointer = j .value; defs = winning schema }))
+
+-- before the first byte: all is empty
+abbrev pub beginningOf : Round → Progress
+beginningOf R =
+    record { blocks = 0; rows = 0; structs = 0; enums = 0; end = itemsAt R; top = itemsAt R + R .cap; charge = 0; seen = 0; next = 0 }

@@ -1,4 +1,6 @@
 //! What is under test: a library or a program that builds, and may read.
+#[cfg(builds)]
+pub mod building;
 #[cfg(library)]
 pub mod library;
 pub mod process;
@@ -35,7 +37,13 @@ pub struct Read {
 }
 
 pub trait Subject {
-    fn build(&mut self, case: &Case) -> Result<Reply, String>;
+    fn build(&mut self, _case: &Case) -> Result<Reply, String> {
+        unreachable!()
+    }
+    /// Whether it builds.
+    fn builds(&self) -> bool {
+        true
+    }
 
     /// Whether the functions below are there.
     fn reads(&self) -> bool {

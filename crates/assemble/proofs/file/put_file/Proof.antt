@@ -1,5 +1,6 @@
-use mathlib.Core.Path.{_≡_, refl, sym, ap, subst, _∙_}
-use Prim.Native.Nat.{_+_, _-_, _*_, _%_, _≤_}
+-- `assemble::file::put_file` meets its contract. Assumes nothing.
+use mathlib.Core.Path.{_≡_, refl, sym, ap, subst}
+use Prim.Native.Nat.{_-_}
 use native.Mathlib.Omega.{arith}
 use borrow.Rule.Slice.PartMut.{putMid}
 use lib.ListN.{length, take, drop, length-drop}
@@ -9,31 +10,19 @@ use Rattle.assemble.proofs.Filing.{whole, stored, rest-fits, rest-small
 use borrow.Author.Needs.{needs}
 use Rattle.assemble.proofs.file.put_file.Statement.{statement}
 use Rattle.assemble.proofs.file.put_file.Tie as tie
-use Rattle.assemble.proofs.file.put_file.Reads as reads
-use Rattle.assemble.proofs.file.put_file.Lts as lts
-use Rattle.assemble.proofs.blocks.assemble.Reads as assemble-reads
-use Rattle.assemble.proofs.definitions.put_schema.Reads as put-schema-reads
 
--- src/file.rt:66:24
-mul-from : tie.Need-mul-from
-mul-from c = search needs
-
--- src/file.rt:66:16
-add-from : tie.Need-add-from
-add-from c = search needs
-
--- src/file.rt:68:9
-assemble-requires : tie.Need-assemble-requires
-assemble-requires c κs =
+pub put-file-spec : {M : Type 1} → statement M
+put-file-spec =
+    tie.close
+    (tie.spec
+    (λ c. search needs) (λ c. search needs)
+    (λ c κs.
     let t = c .before .before .before .before .before .before in
     let a = t .args in
     let g = t .pre .1 in
     let f = g .fitting in
-    record { core = g .state .core; held = whole (a .schema .now) (a .round) (a .p) (a .work .now) (g .schema) (g .state) (g .stack) (t .pre .0) (f .holds) (a .pointer) (length (a .out .now)) (f .fits) (f .small) }
-
--- src/file.rt:69:40
-sub-put-schema : tie.Need-sub-put-schema
-sub-put-schema c =
+    record { core = g .state .core; held = whole (a .schema .now) (a .round) (a .p) (a .work .now) (g .schema) (g .state) (g .stack) (t .pre .0) (f .holds) (a .pointer) (length (a .out .now)) (f .fits) (f .small) })
+    (λ c.
     let t = c .before .before .before .before .before .before .before .before .before .before .before .before in
     let a = t .args in
     let g = t .pre .1 in
@@ -41,11 +30,8 @@ sub-put-schema c =
     let m = c .before .before .before .before .before .assemble in
     let W = whole (a .schema .now) (a .round) (a .p) (a .work .now) (g .schema) (g .state) (g .stack) (t .pre .0) (f .holds) (a .pointer) (length (a .out .now)) (f .fits) (f .small) in
     let e = m .ensures (g .state .core) W in
-    omega (arith, e .2, W .fits, m .kept .1 .1 .1 .1 .1 .1 .1 .0)
-
--- src/file.rt:69:40
-part-put-schema-start : tie.Need-part-put-schema-start
-part-put-schema-start c =
+    omega (arith, e .2, W .fits, m .kept .1 .1 .1 .1 .1 .1 .1 .0))
+    (λ c.
     let t = c .before .before .before .before .before .before .before .before .before .before .before .before in
     let a = t .args in
     let g = t .pre .1 in
@@ -53,15 +39,9 @@ part-put-schema-start c =
     let m = c .before .before .before .before .before .assemble in
     let W = whole (a .schema .now) (a .round) (a .p) (a .work .now) (g .schema) (g .state) (g .stack) (t .pre .0) (f .holds) (a .pointer) (length (a .out .now)) (f .fits) (f .small) in
     let e = m .ensures (g .state .core) W in
-    omega (arith, e .2, W .fits, m .kept .1 .1 .1 .1 .1 .1 .1 .0)
-
--- src/file.rt:69:40
-part-put-schema-end : tie.Need-part-put-schema-end
-part-put-schema-end c = search needs
-
--- src/file.rt:69:5
-put-schema-requires : tie.Need-put-schema-requires
-put-schema-requires c κs =
+    omega (arith, e .2, W .fits, m .kept .1 .1 .1 .1 .1 .1 .1 .0))
+    (λ c. search needs)
+    (λ c κs.
     let t = c .before .before .before .before .before .before .before .before .before .before .before .before .before in
     let a = t .args in
     let g = t .pre .1 in
@@ -80,19 +60,10 @@ put-schema-requires c κs =
         stored (a .schema .now) (a .round) (a .p) (a .work .now) (g .schema) (g .state) (g .stack) h (f .holds) (a .pointer) (length (a .out .now)) (f .fits) (f .small) (a .out .now) o1 w1 (m .result) (e .0) (e .1) (e .2),
         (omega (arith, r, lt, lo), rest-small (a .schema .now) (a .round) (a .p) (a .work .now) (g .schema) (g .state) (g .stack) h (f .holds) (a .pointer) (length (a .out .now)) (f .fits) (f .small) (a .out .now) o1 w1 (m .result) (e .0) (e .1) (e .2)),
       ),
-    )
-
--- src/file.rt:60:1
-same-length : tie.Need-same-length
-same-length c = search needs
-
--- src/file.rt:60:1
-same-length-2 : tie.Need-same-length-2
-same-length-2 c = search needs
-
--- src/file.rt:60:1
-returns : tie.Need-returns
-returns c = λ S s σ f.
+    ))
+    (λ c. search needs) (λ c. search needs)
+    (λ c.
+    λ S s σ f.
     let t = c .before .before .before .before .before .before .before .before .before .before .before .before .before .before .before .before in
     let a = t .args in
     let m = c .before .before .before .before .before .before .before .before .before .assemble in
@@ -105,19 +76,4 @@ returns c = λ S s σ f.
       file-put (a .schema .now) (a .round) (a .p) (a .work .now) S s σ h (f .holds) (a .pointer) (length (a .out .now)) (f .fits) (f .small) (a .out .now) o1 w1 (m .result) (e .0) (e .1) (e .2)
           _ refl lo (ap (λ x. putMid (m .result) (length o1 - m .result) o1 x) (c .before .before .put-schema .ensures)),
       used-after (a .schema .now) (a .round) (a .p) (a .work .now) S s σ h (f .holds) (a .pointer) (length (a .out .now)) (f .fits) (f .small) (a .out .now) o1 w1 (m .result) (e .0) (e .1) (e .2),
-    )
-
-pub put-file-spec : {M : Type 1} → statement M
-put-file-spec =
-    tie.close
-    (tie.spec
-    mul-from
-    add-from
-    assemble-requires
-    sub-put-schema
-    part-put-schema-start
-    part-put-schema-end
-    put-schema-requires
-    same-length
-    same-length-2
-    returns)
+    )))

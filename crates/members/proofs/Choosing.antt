@@ -1,0 +1,367 @@
+-- Members by their kind, as cells and as texts. No line here names a place of the code. Assumes nothing.
+use mathlib.Core.Path.{_≡_, refl, sym, ap, subst, _∙_}
+use mathlib.Core.Logic.{_⊎_, inl, inr}
+use mathlib.Core.Bool.{Bool, true, false, cond, _||_, _&&_, false≢true}
+use mathlib.Core.List.{[], _∷_, _++_}
+use mathlib.Core.Option.{Option, none, some}
+use Prim.Native.Nat.{ℕ, zero, suc, _+_, _-_, _*_, _^_, _≤_, _<_}
+use native.Mathlib.Omega.{arith}
+use lib.Dec.{leb, eqb}
+use lib.ListN.{length, take, drop, length-append, drop-of-length-le}
+use borrow.Author.Tests.{leb-true, le-leb, lt-leb, eq-eqb, ne-eqb, eqb-false}
+use Rattle.numbers.specs.Words.{Bytes, bytesOf, over, number, readAt}
+use Rattle.numbers.specs.Result.{ok, isSome, mapOption, orValue}
+use Rattle.value.specs.Rows.{Value, Row, valueRow, textArea, textOf}
+use Rattle.coerce.specs.Numbers.{Fit, fits, unfit, floatText, mapFit, fitOr, strOf}
+use Rattle.coerce.specs.Names.{Entries, hashOf, enumValue, flagsBits}
+use Rattle.coerce.specs.Answer.{nothing}
+use Rattle.schema.specs.Defs
+use Rattle.schema.specs.Defs.{Schema, StructDef, winning}
+use Rattle.schema.specs.Psch.{schemaOf, entriesAt, enumHere}
+use Rattle.schema.specs.Index.{lastPlace}
+use Rattle.schema.specs.Answers.{foundIs, enumFound}
+use Rattle.schema.specs.declared.lookup.Found.{Found}
+use Rattle.schema.specs.declared.lookup.Found.the-variants.{At, Nothing}
+use Rattle.schema.specs.declared.members.Member as coded
+use Rattle.schema.proofs.Inside.{last-inside}
+use Rattle.layout.specs.State.{State, Env, M, after, bind, ret, ifM, optM, fitM, useEnum}
+use Rattle.layout.specs.Kinds as Kinds
+use Rattle.layout.specs.Members.{leaves, need, wrong, slotSize, enumSize, entriesOf, textSlot, scalarMember, fixedMember, pointerMember, hashMember, textMember, useEnumOf, namedMember, enumMember, flagsMember, referenceAt, high16, low12}
+use Rattle.area.specs.declared.Round.{Round}
+use Rattle.area.specs.declared.Progress.{Progress}
+use Rattle.area.specs.Area.{stackAt, Rep, envOf}
+use Rattle.area.specs.Posts.{Safe, Open, Grown, Notes, Meets}
+use Rattle.members.specs.declared.Def.{Def}
+use Rattle.members.specs.declared.Wrote.{Wrote}
+use Rattle.members.specs.declared.Wrote.the-variants.{Done, Refused}
+use Rattle.members.specs.declared.cells.Cell.{Cell}
+use Rattle.members.specs.declared.cells.Cell.the-variants as C
+use Rattle.members.specs.declared.kinds.Kind.{Kind}
+use Rattle.members.specs.Names.{defOf, memberOf, kindIs}
+use Rattle.members.specs.Cells.{cellBytes, cellSize, Sane}
+use Rattle.members.specs.Posts as posts
+use Rattle.members.specs.Posts.{remarkOn, Buffer, Went, Fills, Slots, wroteIs, anySchema, cellMember, namedCell, plainMember}
+use Rattle.members.proofs.Filling.{def-size, need-yes, fills-as, stays, said, too-long}
+
+-- what is there or not
+is-none : {A : Type 0} (o : Option A) → isSome o ≡ false → o ≡ none
+is-none none e = refl
+is-none (some a) e = absurd (false≢true (sym e))
+
+is-some : {A : Type 0} (o : Option A) (d : A) → isSome o ≡ true → o ≡ some (orValue o d)
+is-some (some a) d e = refl
+is-some none d e = absurd (false≢true e)
+
+take-short : (k : ℕ) (l : Bytes) → length (take k l) ≤ k
+take-short zero l = omega arith
+take-short (suc k) [] = omega arith
+take-short (suc k) (x ∷ l) = omega (arith, take-short k l)
+
+-- a row's text is no longer than its number says
+pub text-short : (T : Bytes) (v : Row) (t : Bytes) → v .b < 2 ^ 32 → t ≡ orValue (strOf T v) nothing → length t < 2 ^ 40
+unfolding strOf textOf
+text-short T v t h e = rw e (go (eqb (v .kind) 15) (eqb (v .kind) 0 || (eqb (v .kind) 14 && eqb (v .a) 0)))
+  where
+    go : (a b : Bool) → length (orValue (cond a (some (textOf T v)) (cond b (some []) none)) nothing) < 2 ^ 40
+    go true b = omega (arith, take-short (v .b) (drop (v .a) (textArea T)))
+    go false true = omega arith
+    go false false = omega arith
+
+-- two actions that do the same where the member fits
+need-same : (d : StructDef) (e : Defs.Member) (k : ℕ) (buf : Bytes) (a b : M Bytes) (s : State) → a s ≡ b s → need d e k buf a s ≡ need d e k buf b s
+unfolding need ifM
+need-same d e k buf a b s h = go (leb (e .offset + k) (d .size))
+  where
+    go : (t : Bool) → ifM t a (leaves d e 1 (d .size) buf) s ≡ ifM t b (leaves d e 1 (d .size) buf) s
+    go true = h
+    go false = refl
+
+-- what is stored where it coerces, and no enum is used
+abbrev stores : Bytes → ℕ → Bytes → M Bytes
+stores buf off bs = bind (ifM false (useEnum 0) (ret tt)) λ _. ret (over buf off bs)
+
+opt-fit : {X : Type 0} (g : X → Bytes) (o : Option X) (a : M Bytes) (buf : Bytes) (off : ℕ) (s : State)
+    → optM o a (λ x. ret (over buf off (g x))) s ≡ fitM (fitOr (mapOption g o) unfit) a (stores buf off) s
+unfolding optM fitM bind after ifM ret
+opt-fit g none a buf off s = refl
+opt-fit g (some x) a buf off s = refl
+
+fit-fit : (x : Fit Bytes) (a : M Bytes) (buf : Bytes) (off : ℕ) (s : State) → fitM x a (λ bs. ret (over buf off bs)) s ≡ fitM x a (stores buf off) s
+unfolding fitM bind after ifM ret
+fit-fit (fits bs) a buf off s = refl
+fit-fit unfit a buf off s = refl
+fit-fit floatText a buf off s = refl
+
+map-fit : (k : ℕ) (x : Fit ℕ) (a : M Bytes) (u : M (Unit {0})) (buf : Bytes) (off : ℕ) (s : State)
+    → fitM x a (λ y. bind u λ _. ret (over buf off (bytesOf k y))) s ≡ fitM (mapFit (bytesOf k) x) a (λ bs. bind u λ _. ret (over buf off bs)) s
+unfolding fitM
+map-fit k (fits y) a u buf off s = refl
+map-fit k unfit a u buf off s = refl
+map-fit k floatText a u buf off s = refl
+
+-- the cell of a scalar
+abbrev pub scalarCell : Kinds.Scalar → Cell
+scalarCell (Kinds.integer k) = C.Integer k
+scalarCell Kinds.single = C.Single
+scalarCell (Kinds.vector n) = C.Vector n
+
+scalar-bytes : (T F : Bytes) (x : Kinds.Scalar) (r : Row) → Kinds.scalarBytes T x r ≡ cellBytes T F (scalarCell x) r
+unfolding Kinds.scalarBytes cellBytes
+scalar-bytes T F (Kinds.integer k) r = refl
+scalar-bytes T F Kinds.single r = refl
+scalar-bytes T F (Kinds.vector n) r = refl
+
+-- an enum's value or flags by entries
+abbrev namedValue : Bytes → Bool → Row → Entries → Fit ℕ
+namedValue T flags r es = cond flags (flagsBits 64 T es r) (enumValue T es r)
+
+named-bytes : (T F : Bytes) (flags : Bool) (at n k : ℕ) (r : Row) → mapFit (bytesOf k) (namedValue T flags r (entriesAt F n at)) ≡ cellBytes T F (namedCell flags at n k) r
+unfolding cellBytes
+named-bytes T F true at n k r = refl
+named-bytes T F false at n k r = refl
+
+module _ (T F : Bytes) (S : Schema) (R : Round) (d : StructDef) (e : Defs.Member) (v : Value) (buf : Bytes) (s : State) where
+  scalar-cell : (x : Kinds.Scalar) → scalarMember (envOf T S R) x d e v buf s ≡ cellMember (envOf T S R) (Kinds.sizeOf x) (cellBytes T F (scalarCell x)) false 0 d e v buf s
+  unfolding scalarMember cellMember
+  scalar-cell x =
+      need-same d e (Kinds.sizeOf x) buf (fitM (Kinds.scalarBytes T x (valueRow T v)) (wrong d e v buf) λ bs. ret (over buf (e .offset) bs))
+      (fitM (cellBytes T F (scalarCell x) (valueRow T v)) (wrong d e v buf) (stores buf (e .offset))) s
+      (fit-fit (Kinds.scalarBytes T x (valueRow T v)) (wrong d e v buf) buf (e .offset) s
+      ∙ ap (λ (y : Fit Bytes). fitM y (wrong d e v buf) (stores buf (e .offset)) s) (scalar-bytes T F x (valueRow T v)))
+
+  fixed-cell : fixedMember (envOf T S R) d e v buf s ≡ cellMember (envOf T S R) (high16 (e .reference)) (cellBytes T F (C.Fixed (high16 (e .reference)))) false 0 d e v buf s
+  unfolding fixedMember cellMember cellBytes
+  fixed-cell =
+      need-same d e (high16 (e .reference)) buf (optM (strOf T (valueRow T v)) (wrong d e v buf) λ t. ret (over buf (e .offset) (take (high16 (e .reference) - 1) t)))
+      (fitM (cellBytes T F (C.Fixed (high16 (e .reference))) (valueRow T v)) (wrong d e v buf) (stores buf (e .offset))) s
+      (opt-fit (take (high16 (e .reference) - 1)) (strOf T (valueRow T v)) (wrong d e v buf) buf (e .offset) s)
+
+  hash-cell : hashMember (envOf T S R) d e v buf s ≡ cellMember (envOf T S R) 4 (cellBytes T F C.Hash) false 0 d e v buf s
+  unfolding hashMember cellMember cellBytes
+  hash-cell =
+      need-same d e 4 buf (optM (hashOf T (valueRow T v)) (wrong d e v buf) λ h. ret (over buf (e .offset) (bytesOf 4 h)))
+      (fitM (cellBytes T F C.Hash (valueRow T v)) (wrong d e v buf) (stores buf (e .offset))) s
+      (opt-fit (bytesOf 4) (hashOf T (valueRow T v)) (wrong d e v buf) buf (e .offset) s)
+
+  -- the entries are those at a place, and the enum is known or not
+  named-cell : (flags known : Bool) (h at n : ℕ) → isSome (winning S .enum h) ≡ known → entriesOf (winning S) h ≡ entriesAt F n at
+      → posts.namedMember flags (envOf T S R) h d e v buf s
+      ≡ cellMember (envOf T S R) (enumSize (e .subtype)) (cellBytes T F (namedCell flags at n (enumSize (e .subtype)))) known h d e v buf s
+  unfolding namedMember cellMember useEnumOf
+  named-cell flags known h at n k l =
+      need-same d e (enumSize (e .subtype)) buf
+      (fitM (namedValue T flags (valueRow T v) (entriesOf (winning S) h)) (wrong d e v buf) λ x. bind (ifM (isSome (winning S .enum h)) (useEnum h) (ret tt)) λ _. ret (over buf (e .offset) (bytesOf (enumSize (e .subtype)) x)))
+      (fitM (cellBytes T F (namedCell flags at n (enumSize (e .subtype))) (valueRow T v)) (wrong d e v buf) λ bs. bind (ifM known (useEnum h) (ret tt)) λ _. ret (over buf (e .offset) bs)) s
+      (rw (l, k)
+      (map-fit (enumSize (e .subtype)) (namedValue T flags (valueRow T v) (entriesAt F n at)) (wrong d e v buf) (ifM known (useEnum h) (ret tt)) buf (e .offset) s
+      ∙ ap (λ (y : Fit Bytes). fitM y (wrong d e v buf) (λ bs. bind (ifM known (useEnum h) (ret tt)) λ _. ret (over buf (e .offset) bs)) s) (named-bytes T F flags at n (enumSize (e .subtype)) (valueRow T v))))
+
+-- behind the file's end all entries are the same
+behind-end : (F : Bytes) (k x y : ℕ) → length F ≤ x → length F ≤ y → readAt k F x ≡ readAt k F y
+unfolding readAt
+behind-end F k x y h g = ap (λ (l : Bytes). number 0 (take k l)) (drop-of-length-le F h ∙ sym (drop-of-length-le F g))
+
+pub entries-behind : (F : Bytes) (n x y : ℕ) → length F ≤ x → length F ≤ y → entriesAt F n x ≡ entriesAt F n y
+unfolding entriesAt
+entries-behind F zero x y h g = refl
+entries-behind F (suc n) x y h g =
+    rw (behind-end F 4 x y h g, behind-end F 4 (x + 4) (y + 4) (omega arith) (omega arith), entries-behind F n (x + 8) (y + 8) (omega arith) (omega arith)) refl
+
+-- where an enum is found lies in the file
+pub place-inside : (F : Bytes) (h at : ℕ) (r : Found) → foundIs r ≡ lastPlace F 1 h → r ≡ At at → at < length F
+place-inside F h at r e f = last-inside F 1 h at (sym e ∙ ap foundIs f)
+
+-- such a cell is in order
+pub named-sane : (flags : Bool) (at n k : ℕ) → at < 2 ^ 63 → n < 2 ^ 24 → k ≤ 4 → Sane (namedCell flags at n k) × (cellSize (namedCell flags at n k) ≡ k)
+named-sane true at n k a b c = ((a, b, c), refl)
+named-sane false at n k a b c = ((a, b, c), refl)
+
+seven-eight : (x : ℕ) → 7 ≤ x → x < 9 → eqb x 7 || eqb x 8 ≡ true
+seven-eight x h g = go (eqb x 7) refl
+  where
+    go : (b : Bool) → eqb x 7 ≡ b → b || eqb x 8 ≡ true
+    go true e = refl
+    go false e = eq-eqb x 8 (let z : x ≡ 7 → ⊥ = eqb-false x 7 e in omega (arith, z))
+
+module _ (R : Round) (n : ℕ) (p : Progress) (w T F : Bytes) (d : Def) (m : coded.Member) (v : Value) where
+  abbrev D : StructDef
+  D = defOf F d
+
+  abbrev e : Defs.Member
+  e = memberOf m
+
+  -- no enum is used
+  abbrev plainly : ℕ → Schema → Type 0
+  plainly name S = false ≡ true → isSome (winning S .enum name) ≡ true
+
+  plainly-so : (name : ℕ) (S : Schema) → plainly name S
+  plainly-so name S z = absurd (false≢true z)
+
+  -- a text by pointer that does not fit
+  pub pointer-long : (q : Progress) (w' : Bytes) → Safe R n p → Open p → leb (m .offset + slotSize (m .subtype)) (d .size) ≡ false → Notes R n p w (remarkOn d m 1 (d .size)) q w'
+      → Fills anySchema R n p w (d .size) (λ S buf. pointerMember (envOf T S R) D e v buf) (Done q) w'
+  unfolding pointerMember
+  pointer-long q w' h o l t =
+      too-long R n p w anySchema F d m (slotSize (m .subtype)) (λ S buf. optM (strOf T (valueRow T v)) (wrong D e v buf) λ x. textSlot (envOf T S R) (m .subtype) x buf (m .offset)) q w' h o l t
+
+  module _ (row : Row) (is : row ≡ valueRow T v) (yes : leb (m .offset + slotSize (m .subtype)) (d .size) ≡ true) where
+    pointer-is : (x : Option Bytes) → strOf T row ≡ x → (S : Schema) (buf : Bytes) (s : State)
+        → pointerMember (envOf T S R) D e v buf s ≡ optM x (wrong D e v buf) (λ y. textSlot (envOf T S R) (m .subtype) y buf (m .offset)) s
+    unfolding pointerMember
+    pointer-is x g S buf s =
+        ap (λ (a : M Bytes). a s)
+        (need-yes D e (slotSize (m .subtype)) buf (optM (strOf T (valueRow T v)) (wrong D e v buf) λ y. textSlot (envOf T S R) (m .subtype) y buf (m .offset)) (rw (def-size F d) yes)
+        ∙ ap (λ (o : Option Bytes). optM o (wrong D e v buf) λ y. textSlot (envOf T S R) (m .subtype) y buf (m .offset)) (ap (strOf T) (sym is) ∙ g))
+
+    -- .. that is no text
+    pub pointer-wrong : (r : Wrote) (w' : Bytes) → isSome (strOf T row) ≡ false → Fills anySchema R n p w (d .size) (λ S buf. wrong D e v buf) r w'
+        → Fills anySchema R n p w (d .size) (λ S buf. pointerMember (envOf T S R) D e v buf) r w'
+    unfolding optM
+    pointer-wrong r w' g a =
+        fills-as R n p w anySchema anySchema (d .size) (λ S buf. pointerMember (envOf T S R) D e v buf) (λ S buf. wrong D e v buf) r w'
+        (λ S z. (z, λ buf s. pointer-is none (is-none (strOf T row) g) S buf s)) a
+
+    -- .. whose slot is filled
+    pub pointer-slot : (t : Bytes) (r : Wrote) (w' : Bytes) → isSome (strOf T row) ≡ true → t ≡ orValue (strOf T row) nothing → Buffer R p (d .size)
+        → Slots R n p w (m .subtype) t (p .top - d .size + m .offset) r w' → Fills anySchema R n p w (d .size) (λ S buf. pointerMember (envOf T S R) D e v buf) r w'
+    unfolding optM
+    pointer-slot t r w' g f b a = record { grew = grew r (a .grew); says = says }
+      where
+        grew : (r : Wrote) → Went R n p 0 r → Went R n p 1 r
+        grew (Done q) h = (h .0, record { more = h .1 .more; paid = h .1 .paid; top = h .1 .top; met = omega (arith, h .1 .met) })
+        grew (Refused k q) h = h
+        says : (S : Schema) → anySchema S → (s : State) (σ buf : Bytes) → length buf ≡ d .size → Rep S R n s (σ ++ buf) p w
+            → Meets S R n (λ b. σ ++ b) (λ b x. length b ≡ d .size) (pointerMember (envOf T S R) D e v buf s) (wroteIs r) w'
+        says S z s σ buf l q =
+            let u : length (σ ++ buf) ≡ length σ + length buf = length-append σ buf in
+            let y : m .offset + slotSize (m .subtype) ≤ d .size = leb-true (m .offset + slotSize (m .subtype)) (d .size) yes in
+            let i : strOf T row ≡ some t = is-some (strOf T row) nothing g ∙ ap some (sym f) in
+            rw (pointer-is (some t) i S buf s)
+            (subst (λ (k : ℕ). Meets S R n (λ b. σ ++ b) (λ b x. length b ≡ k) (textSlot (envOf T S R) (m .subtype) t buf (m .offset) s) (wroteIs r) w') l
+            (a .says S T s σ buf (m .offset) (omega (arith, q .top, b)) (omega arith) q))
+
+  -- a text by its subtype
+  text-as : (known : Schema → Type 0) (g : Schema → Bytes → M Bytes) (r : Wrote) (w' : Bytes) → ((S : Schema) → known S)
+      → ((S : Schema) (buf : Bytes) (s : State) → textMember (envOf T S R) D e v buf s ≡ g S buf s) → Fills known R n p w (d .size) g r w'
+      → Fills anySchema R n p w (d .size) (λ S buf. textMember (envOf T S R) D e v buf) r w'
+  text-as known g r w' k h a = fills-as R n p w anySchema known (d .size) (λ S buf. textMember (envOf T S R) D e v buf) g r w' (λ S z. (k S, λ buf s. h S buf s)) a
+
+  fixed-is : (S : Schema) (buf : Bytes) → m .subtype ≡ 0 → textMember (envOf T S R) D e v buf ≡ fixedMember (envOf T S R) D e v buf
+  unfolding textMember ifM
+  fixed-is S buf h = rw h refl
+
+  pub text-fixed : (len : ℕ) (r : Wrote) (w' : Bytes) → m .subtype ≡ 0 → len ≡ high16 (m .reference)
+      → Fills (plainly 0) R n p w (d .size) (λ S buf. cellMember (envOf T S R) len (cellBytes T F (C.Fixed len)) false 0 D e v buf) r w'
+      → Fills anySchema R n p w (d .size) (λ S buf. textMember (envOf T S R) D e v buf) r w'
+  text-fixed len r w' h g a =
+      text-as (plainly 0) (λ S buf. cellMember (envOf T S R) len (cellBytes T F (C.Fixed len)) false 0 D e v buf) r w' (plainly-so 0)
+      (λ S buf s. ap (λ (x : M Bytes). x s) (fixed-is S buf h) ∙ rw g (fixed-cell T F S R D e v buf s)) a
+
+  pointed-is : (S : Schema) (buf : Bytes) → (m .subtype ≡ 0 → ⊥) → m .subtype < 4 → textMember (envOf T S R) D e v buf ≡ pointerMember (envOf T S R) D e v buf
+  unfolding textMember ifM
+  pointed-is S buf h g = rw (ne-eqb (m .subtype) 0 h, le-leb 1 (m .subtype) (omega (arith, h)), le-leb (m .subtype) 3 (omega arith)) refl
+
+  pub text-pointed : (r : Wrote) (w' : Bytes) → (m .subtype ≡ 0 → ⊥) → m .subtype < 4 → Fills anySchema R n p w (d .size) (λ S buf. pointerMember (envOf T S R) D e v buf) r w'
+      → Fills anySchema R n p w (d .size) (λ S buf. textMember (envOf T S R) D e v buf) r w'
+  text-pointed r w' h g a = text-as anySchema (λ S buf. pointerMember (envOf T S R) D e v buf) r w' (λ S. tt) (λ S buf s. ap (λ (x : M Bytes). x s) (pointed-is S buf h g)) a
+
+  hashed-is : (S : Schema) (buf : Bytes) → 7 ≤ m .subtype → m .subtype < 9 → textMember (envOf T S R) D e v buf ≡ hashMember (envOf T S R) D e v buf
+  unfolding textMember ifM
+  hashed-is S buf h g =
+      rw (ne-eqb (m .subtype) 0 (λ z. omega (arith, z)), le-leb 1 (m .subtype) (omega arith), lt-leb (m .subtype) 3 (omega arith), seven-eight (m .subtype) h g) refl
+
+  pub text-hashed : (r : Wrote) (w' : Bytes) → 7 ≤ m .subtype → m .subtype < 9
+      → Fills (plainly 0) R n p w (d .size) (λ S buf. cellMember (envOf T S R) 4 (cellBytes T F C.Hash) false 0 D e v buf) r w'
+      → Fills anySchema R n p w (d .size) (λ S buf. textMember (envOf T S R) D e v buf) r w'
+  text-hashed r w' h g a =
+      text-as (plainly 0) (λ S buf. cellMember (envOf T S R) 4 (cellBytes T F C.Hash) false 0 D e v buf) r w' (plainly-so 0)
+      (λ S buf s. ap (λ (x : M Bytes). x s) (hashed-is S buf h g) ∙ hash-cell T F S R D e v buf s) a
+
+  strange-is : (S : Schema) (buf : Bytes) → 4 ≤ m .subtype → (m .subtype < 7) ⊎ (9 ≤ m .subtype) → textMember (envOf T S R) D e v buf ≡ leaves D e 3 (m .subtype) buf
+  unfolding textMember ifM
+  strange-is S buf h g =
+      rw (ne-eqb (m .subtype) 0 (λ z. omega (arith, z)), le-leb 1 (m .subtype) (omega arith), lt-leb (m .subtype) 3 (omega arith), ne-eqb (m .subtype) 7 (far 7 (λ l. omega (arith, l)) (λ l. omega (arith, l)) g),
+      ne-eqb (m .subtype) 8 (far 8 (λ l. omega (arith, l)) (λ l. omega (arith, l)) g)) refl
+    where
+      far : (k : ℕ) → (k < 7 → ⊥) → (9 ≤ k → ⊥) → (m .subtype < 7) ⊎ (9 ≤ m .subtype) → m .subtype ≡ k → ⊥
+      far k a b (inl l) z = a (omega (arith, z))
+      far k a b (inr l) z = b (omega (arith, z))
+
+  pub text-strange : (q : Progress) (w' : Bytes) → Safe R n p → Open p → 4 ≤ m .subtype → (m .subtype < 7) ⊎ (9 ≤ m .subtype) → Notes R n p w (remarkOn d m 3 (m .subtype)) q w'
+      → Fills anySchema R n p w (d .size) (λ S buf. textMember (envOf T S R) D e v buf) (Done q) w'
+  text-strange q w' h o a b t =
+      text-as anySchema (λ S buf. leaves D e 3 (m .subtype) buf) (Done q) w' (λ S. tt) (λ S buf s. ap (λ (x : M Bytes). x s) (strange-is S buf a b))
+      (said R n p w anySchema (d .size) F d m 3 (m .subtype) q w' h o t)
+
+  -- the schema is read from the file
+  abbrev read : Schema → Type 0
+  read S = schemaOf F ≡ ok S
+
+  -- flags or an enum by the entries of an enum that is not there
+  pub named-none : (flags : Bool) (h k : ℕ) (f : Found) (r : Wrote) (w' : Bytes) → k ≡ enumSize (m .subtype) → ((S : Schema) → schemaOf F ≡ ok S → winning S .enum h ≡ enumFound F h f) → f ≡ Nothing
+      → Fills (plainly h) R n p w (d .size) (λ S buf. cellMember (envOf T S R) k (cellBytes T F (namedCell flags 0 0 k)) false h D e v buf) r w'
+      → Fills read R n p w (d .size) (λ S buf. posts.namedMember flags (envOf T S R) h D e v buf) r w'
+  unfolding entriesAt
+  named-none flags h k f r w' g i z a =
+      fills-as R n p w read (plainly h) (d .size) (λ S buf. posts.namedMember flags (envOf T S R) h D e v buf)
+      (λ S buf. cellMember (envOf T S R) k (cellBytes T F (namedCell flags 0 0 k)) false h D e v buf) r w'
+      (λ S y.
+      let u : winning S .enum h ≡ none = i S y ∙ ap (enumFound F h) z in
+      (plainly-so h S, λ buf s. rw g (named-cell T F S R D e v buf s flags false h 0 0 (ap isSome u) (ap (λ (o : Option Defs.EnumDef). orValue (mapOption (λ x. x .entries) o) []) u)))) a
+
+  -- .. of one that is there
+  pub named-some : (flags : Bool) (h k at from count : ℕ) (f : Found) (r : Wrote) (w' : Bytes) → k ≡ enumSize (m .subtype)
+      → ((S : Schema) → schemaOf F ≡ ok S → winning S .enum h ≡ enumFound F h f) → f ≡ At at → count ≡ readAt 3 F (at + 1) → ((c : ℕ) → entriesAt F c from ≡ entriesAt F c (at + 4))
+      → Fills (λ S. true ≡ true → isSome (winning S .enum h) ≡ true) R n p w (d .size) (λ S buf. cellMember (envOf T S R) k (cellBytes T F (namedCell flags from count k)) true h D e v buf) r w'
+      → Fills read R n p w (d .size) (λ S buf. posts.namedMember flags (envOf T S R) h D e v buf) r w'
+  unfolding enumHere
+  named-some flags h k at from count f r w' g i z l j a =
+      fills-as R n p w read (λ S. true ≡ true → isSome (winning S .enum h) ≡ true) (d .size) (λ S buf. posts.namedMember flags (envOf T S R) h D e v buf)
+      (λ S buf. cellMember (envOf T S R) k (cellBytes T F (namedCell flags from count k)) true h D e v buf) r w'
+      (λ S y.
+      let u : winning S .enum h ≡ some (enumHere F h at) = i S y ∙ ap (enumFound F h) z in
+      let q : entriesOf (winning S) h ≡ entriesAt F count from =
+      ap (λ (o : Option Defs.EnumDef). orValue (mapOption (λ x. x .entries) o) []) u ∙ ap (λ (c : ℕ). entriesAt F c (at + 4)) (sym l) ∙ sym (j count) in
+      ((λ t. ap isSome u), λ buf s. rw g (named-cell T F S R D e v buf s flags true h from count (ap isSome u) q))) a
+
+  -- a member by its kind
+  pub plain-kind : (known : Schema → Type 0) (x k : Kind) (r : Wrote) (w' : Bytes) → kindIs x ≡ Kinds.kindOf (m .kind) → x ≡ k
+      → Fills known R n p w (d .size) (λ S buf. plainMember (envOf T S R) D e (kindIs k) v buf) r w'
+      → Fills known R n p w (d .size) (λ S buf. plainMember (envOf T S R) D e (Kinds.kindOf (m .kind)) v buf) r w'
+  plain-kind known x k r w' h g a = subst (λ (y : Kinds.Kind). Fills known R n p w (d .size) (λ S buf. plainMember (envOf T S R) D e y v buf) r w') (ap kindIs (sym g) ∙ h) a
+
+  pub plain-scalar : (x : Kinds.Scalar) (r : Wrote) (w' : Bytes)
+      → Fills (plainly 0) R n p w (d .size) (λ S buf. cellMember (envOf T S R) (Kinds.sizeOf x) (cellBytes T F (scalarCell x)) false 0 D e v buf) r w'
+      → Fills read R n p w (d .size) (λ S buf. plainMember (envOf T S R) D e (Kinds.scalar x) v buf) r w'
+  unfolding plainMember
+  plain-scalar x r w' a =
+      fills-as R n p w read (plainly 0) (d .size) (λ S buf. plainMember (envOf T S R) D e (Kinds.scalar x) v buf)
+      (λ S buf. cellMember (envOf T S R) (Kinds.sizeOf x) (cellBytes T F (scalarCell x)) false 0 D e v buf) r w' (λ S z. (plainly-so 0 S, λ buf s. scalar-cell T F S R D e v buf s x)) a
+
+  pub plain-text : (r : Wrote) (w' : Bytes) → Fills anySchema R n p w (d .size) (λ S buf. textMember (envOf T S R) D e v buf) r w'
+      → Fills read R n p w (d .size) (λ S buf. plainMember (envOf T S R) D e Kinds.text v buf) r w'
+  unfolding plainMember
+  plain-text r w' a =
+      fills-as R n p w read anySchema (d .size) (λ S buf. plainMember (envOf T S R) D e Kinds.text v buf) (λ S buf. textMember (envOf T S R) D e v buf) r w' (λ S z. (tt, λ buf s. refl)) a
+
+  pub plain-enum : (r : Wrote) (w' : Bytes) → Fills read R n p w (d .size) (λ S buf. posts.namedMember false (envOf T S R) (m .reference) D e v buf) r w'
+      → Fills read R n p w (d .size) (λ S buf. plainMember (envOf T S R) D e Kinds.enumeration v buf) r w'
+  unfolding plainMember enumMember
+  plain-enum r w' a = a
+
+  pub plain-flags : (h : ℕ) (r : Wrote) (w' : Bytes) → h ≡ referenceAt D (low12 (m .reference)) → Fills read R n p w (d .size) (λ S buf. posts.namedMember true (envOf T S R) h D e v buf) r w'
+      → Fills read R n p w (d .size) (λ S buf. plainMember (envOf T S R) D e Kinds.flags v buf) r w'
+  unfolding plainMember flagsMember
+  plain-flags h r w' g a = subst (λ (y : ℕ). Fills read R n p w (d .size) (λ S buf. posts.namedMember true (envOf T S R) y D e v buf) r w') g a
+
+  -- a structure, an array or a map is left to others
+  pub plain-left : (k : Kinds.Kind) → Safe R n p → (k ≡ Kinds.structure) ⊎ ((k ≡ Kinds.array) ⊎ (k ≡ Kinds.map)) → Fills read R n p w (d .size) (λ S buf. plainMember (envOf T S R) D e k v buf) (Done p) w
+  unfolding plainMember
+  plain-left k h (inl z) = rw z (stays R n p w read (d .size) h)
+  plain-left k h (inr (inl z)) = rw z (stays R n p w read (d .size) h)
+  plain-left k h (inr (inr z)) = rw z (stays R n p w read (d .size) h)
+
+  pub plain-other : (q : Progress) (w' : Bytes) → Safe R n p → Open p → Notes R n p w (remarkOn d m 13 (m .kind)) q w'
+      → Fills read R n p w (d .size) (λ S buf. plainMember (envOf T S R) D e Kinds.other v buf) (Done q) w'
+  unfolding plainMember
+  plain-other q w' h o t = said R n p w read (d .size) F d m 13 (m .kind) q w' h o t

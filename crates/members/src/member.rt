@@ -1,0 +1,432 @@
+// Members that lead to no structure. The structure's bytes so far are the top of the stack.
+use crate::Def;
+use crate::Wrote;
+use crate::cells::Cell;
+use crate::cells::Put;
+use crate::cells::put_cell;
+use crate::kinds::Kind;
+use crate::kinds::kind_of;
+use crate::kinds::type_number;
+use crate::pay;
+use crate::reference_at;
+use crate::say;
+use area::Laid;
+use area::Progress;
+use area::Round;
+use area::items::lay_text;
+use area::used::use_enum;
+use coerce::whole::has_str;
+use coerce::whole::str_of;
+use numbers::words::write;
+use schema::lookup::Found as Place;
+use schema::lookup::find_enum;
+use schema::members::Member;
+use schema::members::entry_count;
+use value::Found;
+use value::Row;
+use value::value_row;
+ghost use mathlib.Core.Path.{_≡_};
+ghost use mathlib.Core.Bool.{true};
+ghost use Prim.Native.Nat.{ℕ, _+_, _≤_, _<_, _^_};
+ghost use lib.Dec.{leb};
+ghost use lib.ListN.{length};
+ghost use Rattle.numbers.specs.Words.{Bytes};
+ghost use Rattle.numbers.specs.Result.{ok, isSome};
+ghost use Rattle.value.specs.Answer.{valueIs};
+ghost use Rattle.schema.specs.Defs.{Schema, winning};
+ghost use Rattle.schema.specs.Psch.{schemaOf, entriesAt};
+ghost use Rattle.layout.specs.Kinds;
+ghost use Rattle.layout.specs.Members;
+ghost use Rattle.area.specs.Area.{stackAt, envOf};
+ghost use Rattle.area.specs.Posts.{Safe, Open};
+ghost use Rattle.members.specs.Names.{defOf, memberOf};
+ghost use Rattle.members.specs.Cells.{Sane, cellSize, cellBytes};
+ghost use Rattle.members.specs.Posts.{Buffer, Fills, Slots, Marked, anySchema, cellMember, namedCell, namedMember, plainMember};
+
+// Whether n bytes at the member's offset lie in the structure.
+pub fn fits(d: Def, m: Member, n: usize) -> bool
+    requires { ⌜ n < 2 ^ 40 ⌝ }
+    ensures { λ r. ⌜ r ≡ leb (m .offset + n) (d .size) ⌝ }
+{
+    let off = m.offset as usize;
+    let size = d.size as usize;
+    off + n <= size
+}
+
+// Remark 2, unless the member is missing.
+pub fn wrong(work: &mut [u8], round: Round, p: Progress, d: Def, m: Member, v: Found) -> Wrote
+    requires { ⌜ Safe round (length (now work)) p × Open p ⌝ }
+    ensures { λ r. ⌜ ((F : Bytes) → Fills anySchema round (length (now (work .entry))) p (now (work .entry)) (d .size)
+        (λ S buf. Members.wrong (defOf F d) (memberOf m) (valueIs v) buf) r (now (work .exit))) ⌝ }
+{
+    match v {
+        Found::Missing => Wrote::Done(p),
+        Found::At(r) => {
+            let n = type_number(m.kind);
+            Wrote::Done(say(work, round, p, d, m, 2, n))
+        }
+    }
+}
+
+// An enum is used, where it is known.
+fn used(work: &mut [u8], round: Round, p: Progress, known: bool, name: u32) -> Progress
+    requires { ⌜ Safe round (length (now work)) p ⌝ }
+    ensures { λ q. ⌜ Marked round (length (now (work .entry))) p (now (work .entry)) known name q (now (work .exit)) ⌝ }
+{
+    if known {
+        return use_enum(work, round, p, name);
+    }
+    p
+}
+
+// A member that is a cell of `need` bytes; where it is stored, the enum of the name is used, if known.
+fn write_cell(
+    sheet: &[u8],
+    schema: &[u8],
+    work: &mut [u8],
+    round: Round,
+    p: Progress,
+    d: Def,
+    m: Member,
+    v: Found,
+    cell: Cell,
+    need: usize,
+    known: bool,
+    name: u32,
+) -> Wrote
+    requires { ⌜ Safe round (length (now work)) p × Open p ⌝ }
+    requires { ⌜ Buffer round p (d .size) × Sane cell × (cellSize cell ≡ need) × (need < 2 ^ 40) ⌝ }
+    ensures { λ r. ⌜ Fills (λ S. known ≡ true → isSome (winning S .enum name) ≡ true) round (length (now (work .entry))) p (now (work .entry)) (d .size)
+        (λ S buf. cellMember (envOf (now (sheet .entry)) S round) need (cellBytes (now (sheet .entry)) (now (schema .entry)) cell) known name
+        (defOf (now (schema .entry)) d) (memberOf m) (valueIs v) buf) r (now (work .exit)) ⌝ }
+{
+    if !fits(d, m, need) {
+        return Wrote::Done(say(work, round, p, d, m, 1, d.size));
+    }
+    let row = value_row(sheet, v);
+    let off = m.offset as usize;
+    let stop = p.top;
+    let at = stop - (d.size as usize);
+    match put_cell(sheet, schema, &mut work[at..stop], off, cell, row) {
+        Put::Stored => Wrote::Done(used(work, round, p, known, name)),
+        Put::Unfit => wrong(work, round, p, d, m, v),
+        Put::FloatText => Wrote::Refused(11, p),
+    }
+}
+
+// A pointer at `at`.
+pub fn put_pointer(work: &mut [u8], at: usize, x: u32)
+    requires { ⌜ at + 4 ≤ length (now work) ⌝ }
+    ensures { λ _. ⌜ now (work .exit) ≡ Members.putPointer (now (work .entry)) at x ⌝ }
+{
+    write(work, at, 4, x as u64);
+}
+
+// A pointer with a count.
+pub fn put_counted(work: &mut [u8], at: usize, x: u32, n: usize)
+    requires { ⌜ at + 12 ≤ length (now work) ⌝ }
+    ensures { λ _. ⌜ now (work .exit) ≡ Members.putCounted (now (work .entry)) at x n ⌝ }
+{
+    put_pointer(work, at, x);
+    write(work, at + 8, 2, n as u64);
+    write(work, at + 10, 2, n as u64);
+}
+
+// How many bytes a text by pointer has in its structure.
+pub fn slot_size(sub: u8) -> usize
+    ensures { λ r. ⌜ (r ≡ Members.slotSize sub) × (8 ≤ r) × (r ≤ 16) ⌝ }
+{
+    if sub == 3 { 16 } else { 8 }
+}
+
+// A text is laid, and its pointer stands at `at`, with its length where the subtype is 3; an empty text is not laid.
+pub fn text_slot(
+    work: &mut [u8],
+    round: Round,
+    p: Progress,
+    sub: u8,
+    text: &[u8],
+    at: usize,
+) -> Wrote
+    requires { ⌜ Safe round (length (now work)) p ⌝ }
+    requires { ⌜ (stackAt round ≤ at) × (at + Members.slotSize sub ≤ p .top) × (length (now text) < 2 ^ 40) ⌝ }
+    ensures { λ r. ⌜ Slots round (length (now (work .entry))) p (now (work .entry)) sub (now (text .entry)) at r (now (work .exit)) ⌝ }
+{
+    let n = text.len();
+    if n == 0 {
+        return Wrote::Done(p);
+    }
+    match pay(round, p, 16 + (n + 1)) {
+        Wrote::Refused(k, q) => Wrote::Refused(k, q),
+        Wrote::Done(q) => match lay_text(work, round, q, text) {
+            Laid::Refused(k, s) => Wrote::Refused(k, s),
+            Laid::At(x, s) => {
+                if sub == 3 {
+                    put_counted(work, at, x, n);
+                } else {
+                    put_pointer(work, at, x);
+                }
+                Wrote::Done(s)
+            }
+        },
+    }
+}
+
+// A text by pointer.
+fn write_pointer(
+    sheet: &[u8],
+    schema: &[u8],
+    work: &mut [u8],
+    round: Round,
+    p: Progress,
+    d: Def,
+    m: Member,
+    v: Found,
+) -> Wrote
+    requires { ⌜ Safe round (length (now work)) p × Open p ⌝ }
+    requires { ⌜ Buffer round p (d .size) ⌝ }
+    ensures { λ r. ⌜ Fills anySchema round (length (now (work .entry))) p (now (work .entry)) (d .size)
+        (λ S buf. Members.pointerMember (envOf (now (sheet .entry)) S round) (defOf (now (schema .entry)) d) (memberOf m) (valueIs v) buf) r (now (work .exit)) ⌝ }
+{
+    if !fits(d, m, slot_size(m.subtype)) {
+        return Wrote::Done(say(work, round, p, d, m, 1, d.size));
+    }
+    let row = value_row(sheet, v);
+    if !has_str(row) {
+        return wrong(work, round, p, d, m, v);
+    }
+    let at = p.top - (d.size as usize) + (m.offset as usize);
+    text_slot(work, round, p, m.subtype, str_of(sheet, row), at)
+}
+
+// The high half of a reference.
+pub fn high_half(x: u32) -> u32
+    ensures { λ r. ⌜ (r ≡ Members.high16 x) × (r < 65536) ⌝ }
+{
+    x / 65536
+}
+
+// A text, by its subtype.
+fn write_text(
+    sheet: &[u8],
+    schema: &[u8],
+    work: &mut [u8],
+    round: Round,
+    p: Progress,
+    d: Def,
+    m: Member,
+    v: Found,
+) -> Wrote
+    requires { ⌜ Safe round (length (now work)) p × Open p ⌝ }
+    requires { ⌜ Buffer round p (d .size) ⌝ }
+    ensures { λ r. ⌜ Fills anySchema round (length (now (work .entry))) p (now (work .entry)) (d .size)
+        (λ S buf. Members.textMember (envOf (now (sheet .entry)) S round) (defOf (now (schema .entry)) d) (memberOf m) (valueIs v) buf) r (now (work .exit)) ⌝ }
+{
+    let sub = m.subtype;
+    match sub {
+        0 => {
+            let len = high_half(m.reference) as usize;
+            write_cell(
+                sheet,
+                schema,
+                work,
+                round,
+                p,
+                d,
+                m,
+                v,
+                Cell::Fixed(len),
+                len,
+                false,
+                0,
+            )
+        }
+        1..=3 => write_pointer(sheet, schema, work, round, p, d, m, v),
+        7 | 8 => write_cell(
+            sheet,
+            schema,
+            work,
+            round,
+            p,
+            d,
+            m,
+            v,
+            Cell::Hash,
+            4,
+            false,
+            0,
+        ),
+        _ => Wrote::Done(say(work, round, p, d, m, 3, m.subtype as u32)),
+    }
+}
+
+// How many bytes an enum or flags member has.
+fn enum_size(sub: u8) -> usize
+    ensures { λ r. ⌜ (r ≡ Members.enumSize sub) × (r ≤ 4) ⌝ }
+{
+    match sub {
+        0 => 4,
+        1 => 2,
+        _ => 1,
+    }
+}
+
+// Flags or an enum's value.
+fn named_cell(flags: bool, at: usize, n: usize, k: usize) -> Cell
+    ensures { λ r. ⌜ r ≡ namedCell flags at n k ⌝ }
+{
+    if flags {
+        return Cell::Flags(at, n, k);
+    }
+    Cell::Enum(at, n, k)
+}
+
+// Where the entries of the enum at a place begin; the file's end, where that is before it.
+pub fn entries_at(schema: &[u8], place: usize) -> usize
+    requires { ⌜ place < length (now schema) ⌝ }
+    ensures { λ r. ⌜ (r < 2 ^ 63) × ((n : ℕ) → entriesAt (now (schema .entry)) n r ≡ entriesAt (now (schema .entry)) n (place + 4)) ⌝ }
+{
+    let at = place + 4;
+    if schema.len() < at {
+        return schema.len();
+    }
+    at
+}
+
+// An enum or flags member, by the entries of the enum h.
+fn write_named(
+    sheet: &[u8],
+    schema: &[u8],
+    work: &mut [u8],
+    round: Round,
+    p: Progress,
+    d: Def,
+    m: Member,
+    v: Found,
+    h: u32,
+    flags: bool,
+) -> Wrote
+    requires { ⌜ Safe round (length (now work)) p × Open p ⌝ }
+    requires { ⌜ Buffer round p (d .size) ⌝ }
+    ensures { λ r. ⌜ Fills (λ S. schemaOf (now (schema .entry)) ≡ ok S) round (length (now (work .entry))) p (now (work .entry)) (d .size)
+        (λ S buf. namedMember flags (envOf (now (sheet .entry)) S round) h (defOf (now (schema .entry)) d) (memberOf m) (valueIs v) buf) r (now (work .exit)) ⌝ }
+{
+    let k = enum_size(m.subtype);
+    match find_enum(schema, h) {
+        Place::Nothing => write_cell(
+            sheet,
+            schema,
+            work,
+            round,
+            p,
+            d,
+            m,
+            v,
+            named_cell(flags, 0, 0, k),
+            k,
+            false,
+            h,
+        ),
+        Place::At(at) => {
+            let n = entry_count(schema, at) as usize;
+            let from = entries_at(schema, at);
+            write_cell(
+                sheet,
+                schema,
+                work,
+                round,
+                p,
+                d,
+                m,
+                v,
+                named_cell(flags, from, n, k),
+                k,
+                true,
+                h,
+            )
+        }
+    }
+}
+
+// A member that leads to no structure, by its kind; any other kind is left to the writers of structures.
+pub fn write_plain(
+    sheet: &[u8],
+    schema: &[u8],
+    work: &mut [u8],
+    round: Round,
+    p: Progress,
+    d: Def,
+    m: Member,
+    v: Found,
+) -> Wrote
+    requires { ⌜ Safe round (length (now work)) p × Open p ⌝ }
+    requires { ⌜ Buffer round p (d .size) ⌝ }
+    ensures { λ r. ⌜ Fills (λ S. schemaOf (now (schema .entry)) ≡ ok S) round (length (now (work .entry))) p (now (work .entry)) (d .size)
+        (λ S buf. plainMember (envOf (now (sheet .entry)) S round) (defOf (now (schema .entry)) d) (memberOf m) (Kinds.kindOf (m .kind)) (valueIs v) buf) r (now (work .exit)) ⌝ }
+{
+    match kind_of(m.kind) {
+        Kind::Integer(k) => write_cell(
+            sheet,
+            schema,
+            work,
+            round,
+            p,
+            d,
+            m,
+            v,
+            Cell::Integer(k),
+            k,
+            false,
+            0,
+        ),
+        Kind::Single => write_cell(
+            sheet,
+            schema,
+            work,
+            round,
+            p,
+            d,
+            m,
+            v,
+            Cell::Single,
+            4,
+            false,
+            0,
+        ),
+        Kind::Vector(n) => write_cell(
+            sheet,
+            schema,
+            work,
+            round,
+            p,
+            d,
+            m,
+            v,
+            Cell::Vector(n),
+            4 * n,
+            false,
+            0,
+        ),
+        Kind::Text => write_text(sheet, schema, work, round, p, d, m, v),
+        Kind::Enumeration => write_named(
+            sheet,
+            schema,
+            work,
+            round,
+            p,
+            d,
+            m,
+            v,
+            m.reference,
+            false,
+        ),
+        Kind::Flags => {
+            let h = reference_at(schema, d, m.reference % 4096);
+            write_named(sheet, schema, work, round, p, d, m, v, h, true)
+        }
+        Kind::Structure => Wrote::Done(p),
+        Kind::Array => Wrote::Done(p),
+        Kind::Map => Wrote::Done(p),
+        Kind::Other => Wrote::Done(say(work, round, p, d, m, 13, m.kind as u32)),
+    }
+}

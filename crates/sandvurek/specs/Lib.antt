@@ -1,0 +1,2 @@
+-- What the library's functions answer.
+pub mod Exports

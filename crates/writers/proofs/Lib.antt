@@ -1,0 +1,20 @@
+-- Laws of the writers.
+pub mod Nths
+pub mod Naming
+pub mod NinthRemark
+pub mod Meeting
+pub mod Choosing
+pub mod Lodging
+pub mod Embedding
+pub mod Children
+pub mod Filled
+pub mod Fillings
+pub mod Pairing
+pub mod Passing
+pub mod Inlines
+pub mod Pointers
+pub mod Kindly
+pub mod Starting
+pub mod Structs
+pub mod StructRuns
+pub mod PointerRuns
