@@ -1,0 +1,72 @@
+-- The loop's state, and what a turn and the end make of it. Assumes nothing.
+use mathlib.Core.Path.{_≡_, refl, sym, subst, _∙_}
+use mathlib.Core.Bool.{not}
+use mathlib.Core.WellFounded.{WellFounded, InvImage·wf}
+use Prim.Native.Nat.{ℕ, _<_}
+use mathlib.Core.List.{[], _∷_, List}
+use lib.ListN.{length, getD, set}
+use lib.WfN.{Nat·lt-wfRel}
+use lib.Dec.{T as Holds, ltb, nltb→le}
+use mir.Val.{Val}
+use denote.Laws.{Is}
+use denote.Struct.Laws as LL
+use Rattle.layout.specs.Build.{zeroRemark, buildPso}
+use Rattle.layout.specs.declared.Remark.{Remark}
+use Rattle.pso_write.specs.Answers.{leaves}
+use Rattle.pso_write.specs.Merge.{Closing, Inv, turns as turns-left, Steps, Ends}
+use Rattle.pso_write.specs.declared.Built.{Built}
+use Rattle.pso_write.specs.declared.Stage.{Stage as St}
+use Rattle.pso_write.specs.declared.Turn.{Turn}
+use Rattle.pso_write.proofs.Endings.{ready, leaves-all}
+use Rattle.layout.proofs.Remark as T
+use Rattle.layout.proofs.Remark.Laws as T′
+use Rattle.pso_write.proofs.Turn as U
+use Rattle.pso_write.proofs.Turn.Laws as U′
+use Rattle.pso_write.proofs.build_pso.Proof.Types.{IsSt}
+
+-- parts of a turn
+pub st-is : (u : Turn) (w : Val) → Is U.the-row u (w ∷ []) → IsSt (u .st)
+st-is u w is = LL.owed U.the-type U′.the-laws u _ is .0
+
+pub new-is : (u : Turn) (w : Val) → Is U.the-row u (w ∷ []) → Is T.the-row (u .new) (T′.lowered (u .new) ∷ [])
+new-is u w is = LL.owed U.the-type U′.the-laws u _ is .1 .0
+
+module _ (T F : List ℕ) (N L : ℕ) (os : List ℕ) where
+  abbrev B : ℕ
+  B = length os
+
+  abbrev pub Said : Built → List Remark → List ℕ → List ℕ → Type 0
+  Said r zs os′ us = leaves r os′ zs us ≡ buildPso T F L os N
+
+  abbrev pub Finished : List ℕ → Built → List ℕ → List ℕ → Type 0
+  Finished us₀ r os′ us = Ends T F N (length us₀) os r os′ us
+
+  abbrev pub Facts : St → List Remark → List ℕ → Type 0
+  Facts st zs us = IsSt st × ((length zs ≡ N) × ((length us ≡ L) × Inv T F B N st zs us))
+
+  abbrev pub State : Type 0
+  State = (st : St) × ((zs : List Remark) × ((us : List ℕ) × Facts st zs us))
+
+  abbrev pub Nearer : State → State → Type 0
+  Nearer t u = turns-left N (t .0) < turns-left N (u .0)
+
+  pub Nearer-wf : WellFounded Nearer
+  Nearer-wf = InvImage·wf (λ (t : State). turns-left N (t .0)) (Nat·lt-wfRel .wf)
+
+  after-turn : (t : State) (r : Remark) (u : Turn) (us : List ℕ) → r ≡ getD (t .1 .0) (t .0 .at) zeroRemark → Steps T F B N (t .0) r (t .1 .1 .0) u us
+      → Inv T F B N (u .st) (set (t .1 .0) (t .0 .at) (u .new)) us × (turns-left N (u .st) < turns-left N (t .0))
+  after-turn t r u us e s = s (t .1 .0) (t .1 .1 .1 .1 .0) e (t .1 .1 .1 .1 .1 .1)
+
+  pub next : (t : State) (r : Remark) (u : Turn) (zs : List Remark) (us : List ℕ) → IsSt (u .st) → length zs ≡ length (t .1 .0) → length us ≡ length (t .1 .1 .0) → r ≡ getD (t .1 .0) (t .0 .at) zeroRemark
+      → Steps T F B N (t .0) r (t .1 .1 .0) u us → zs ≡ set (t .1 .0) (t .0 .at) (u .new) → Facts (u .st) zs us
+  next t r u zs us is lz lu e s f = (is, (lz ∙ t .1 .1 .1 .1 .0, (lu ∙ t .1 .1 .1 .1 .1 .0, subst (λ (l : List Remark). Inv T F B N (u .st) l us) (sym f) (after-turn t r u us e s .0))))
+
+  pub falls : (t : State) (r : Remark) (u : Turn) (us : List ℕ) → r ≡ getD (t .1 .0) (t .0 .at) zeroRemark → Steps T F B N (t .0) r (t .1 .1 .0) u us → turns-left N (u .st) < turns-left N (t .0)
+  falls t r u us e s = after-turn t r u us e s .1
+
+  pub finish-ready : (t : State) → Holds (not (ltb (t .0 .at) N)) → Closing T F B N (t .0 .job) (t .0 .length) (t .0 .count) (t .1 .1 .0)
+  finish-ready t over = ready T F B N (t .0) (t .1 .0) (t .1 .1 .0) (t .1 .1 .1 .1 .0) (t .1 .1 .1 .1 .1 .1) (nltb→le (t .0 .at) N over)
+
+  pub said : (t : State) → Holds (not (ltb (t .0 .at) N)) → (r : Built) (os′ : List ℕ) (us : List ℕ) → Finished (t .1 .1 .0) r os′ us → Said r (t .1 .0) os′ us
+  said t over r os′ us e =
+      leaves-all T F B N (t .0) (t .1 .0) (t .1 .1 .0) (t .1 .1 .1 .1 .0) (t .1 .1 .1 .1 .1 .1) (nltb→le (t .0 .at) N over) L (t .1 .1 .1 .1 .1 .0) os refl r os′ us e
