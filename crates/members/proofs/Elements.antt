@@ -144,6 +144,7 @@ module _ (E : Env) (F : Bytes) where
         seven : A ⊎ B → x .subtype ≡ 7 → ⊥
         seven (inl a) q = omega (arith, f a, q)
         seven (inr b) q = omega (arith, g b, q)
+
         eight : A ⊎ B → x .subtype ≡ 8 → ⊥
         eight (inl a) q = omega (arith, f a, q)
         eight (inr b) q = omega (arith, g b, q)
@@ -188,13 +189,16 @@ module _ (R : Round) (n : ℕ) (p : Progress) (w T F : Bytes) (h : ℕ) (rs : Li
     where
       grew-then : (r : Ran) → Grew R n q 0 r → Grew R n p 0 r
       grew-then (Rn.Kept b x) y =
-          let z = y .2 in
-          (y .0, omega (arith, y .1, t .top), record {
-            more = omega (arith, z .more, t .end);
-            paid = omega (arith, z .paid, t .end, t .charge, t .top);
-            top = omega (arith, z .top, t .top);
-            met = omega (arith, z .met, t .seen, t .charge);
-          })
+          let z = y .2 in (
+            y .0,
+            omega (arith, y .1, t .top),
+            record {
+              more = omega (arith, z .more, t .end);
+              paid = omega (arith, z .paid, t .end, t .charge, t .top);
+              top = omega (arith, z .top, t .top);
+              met = omega (arith, z .met, t .seen, t .charge);
+            },
+          )
       grew-then (Rn.Dropped x) y =
           let z = y .1 in
           (y .0, record { more = omega (arith, z .more, t .end); paid = omega (arith, z .paid, t .end, t .charge); top = omega (arith, z .top, t .top); met = omega (arith, z .met, t .seen, t .charge) })

@@ -112,23 +112,24 @@ module _ (R : Round) (n : ℕ) (p : Progress) where
 
   -- .. and with a text laid, whose charge is paid
   pub laid-went : (len : ℕ) (q : Progress) → Safe R n p → p .charge + (16 + len) ≤ R .cap → Larger (withPaid p (p .charge + (16 + len))) len (p .top) q → Went R n p 0 (Done q)
-  laid-went len q h l g =
-      (record {
-        small = h .small;
-        room = h .room;
-        from = omega (arith, h .from, g .end);
-        items = omega (arith, h .items, g .end, g .charge);
-        low = omega (arith, h .low, g .top);
-        stack = omega (arith, h .stack, g .top, g .charge);
-        within = omega (arith, g .charge);
-        blocks = g .blocks;
-        rows = omega (arith, h .rows, g .rows);
-        structs = omega (arith, h .structs, g .structs);
-        enums = omega (arith, h .enums, g .enums);
-        next = omega (arith, h .next, g .next, g .seen);
-        seen = omega (arith, h .seen, g .seen, g .charge);
-      },
-      record { more = omega (arith, g .end); paid = omega (arith, g .end, g .charge); top = omega (arith, g .top); met = omega (arith, g .seen, g .charge) })
+  laid-went len q h l g = (
+    record {
+      small = h .small;
+      room = h .room;
+      from = omega (arith, h .from, g .end);
+      items = omega (arith, h .items, g .end, g .charge);
+      low = omega (arith, h .low, g .top);
+      stack = omega (arith, h .stack, g .top, g .charge);
+      within = omega (arith, g .charge);
+      blocks = g .blocks;
+      rows = omega (arith, h .rows, g .rows);
+      structs = omega (arith, h .structs, g .structs);
+      enums = omega (arith, h .enums, g .enums);
+      next = omega (arith, h .next, g .next, g .seen);
+      seen = omega (arith, h .seen, g .seen, g .charge);
+    },
+    record { more = omega (arith, g .end); paid = omega (arith, g .end, g .charge); top = omega (arith, g .top); met = omega (arith, g .seen, g .charge) },
+  )
 
 module _ (R : Round) (n : ℕ) (p : Progress) (w : Bytes) (sub : ℕ) (t : Bytes) (at : ℕ) (safe : Safe R n p) where
   abbrev price : ℕ
@@ -247,6 +248,7 @@ module _ (R : Round) (n : ℕ) (p : Progress) (w : Bytes) (sub : ℕ) (t : Bytes
               let u : length (bytesOf 2 (length t) ++ bytesOf 2 (length t)) ≡ length (bytesOf 2 (length t)) + length (bytesOf 2 (length t)) = length-append (bytesOf 2 (length t)) (bytesOf 2 (length t)) in
               let m : slotSize sub ≡ 16 = rw e refl in
               let z : length (over buf off (bytesOf 4 x)) ≡ length buf = length-over buf off (bytesOf 4 x) (omega arith) in
-              let d = rep-put S R n σ buf (bytesOf 4 x) off at r (top-inside x q w' a) (omega arith) i in
-              (rep-put S R n σ (over buf off (bytesOf 4 x)) (bytesOf 2 (length t) ++ bytesOf 2 (length t)) (off + 8) (at + 8) d (top-inside x q w' a) (omega arith) (omega arith),
-              length-over (over buf off (bytesOf 4 x)) (off + 8) (bytesOf 2 (length t) ++ bytesOf 2 (length t)) (omega arith) ∙ z)
+              let d = rep-put S R n σ buf (bytesOf 4 x) off at r (top-inside x q w' a) (omega arith) i in (
+                rep-put S R n σ (over buf off (bytesOf 4 x)) (bytesOf 2 (length t) ++ bytesOf 2 (length t)) (off + 8) (at + 8) d (top-inside x q w' a) (omega arith) (omega arith),
+                length-over (over buf off (bytesOf 4 x)) (off + 8) (bytesOf 2 (length t) ++ bytesOf 2 (length t)) (omega arith) ∙ z,
+              )

@@ -91,21 +91,21 @@ quiet R n q v d m kind pairs t v' h o x = go (needsNote kind pairs) refl
           charge = y .charge;
           seen = omega (arith, y .seen);
           safe =
-            record {
-              small = h .small;
-              room = h .room;
-              from = omega (arith, y .end, h .from);
-              items = omega (arith, y .end, y .charge, h .items);
-              low = omega (arith, y .top, h .low);
-              stack = omega (arith, y .top, y .charge, h .stack);
-              within = omega (arith, y .charge, h .within);
-              blocks = omega (arith, y .blocks, h .blocks);
-              rows = y .rows;
-              structs = omega (arith, y .structs, h .structs);
-              enums = omega (arith, y .enums, h .enums);
-              next = y .next;
-              seen = omega (arith, y .seen, y .charge, o);
-            };
+              record {
+                small = h .small;
+                room = h .room;
+                from = omega (arith, y .end, h .from);
+                items = omega (arith, y .end, y .charge, h .items);
+                low = omega (arith, y .top, h .low);
+                stack = omega (arith, y .top, y .charge, h .stack);
+                within = omega (arith, y .charge, h .within);
+                blocks = omega (arith, y .blocks, h .blocks);
+                rows = y .rows;
+                structs = omega (arith, y .structs, h .structs);
+                enums = omega (arith, y .enums, h .enums);
+                next = y .next;
+                seen = omega (arith, y .seen, y .charge, o);
+              };
         }
     go false e =
         let (f, g) = x .none e in

@@ -101,23 +101,23 @@ entered F R n p w d s q w' safe e m =
           charge = m .charge;
           seen = m .seen;
           safe =
-            record {
-              small = safe .small;
-              room = safe .room;
-              from = omega (arith, m .end, safe .from);
-              items = omega (arith, m .end, m .charge, safe .items);
-              low = omega (arith, m .top, safe .low);
-              stack = omega (arith, m .top, m .charge, safe .stack);
-              within = omega (arith, m .charge);
-              blocks = omega (arith, m .blocks, safe .blocks);
-              rows = omega (arith, m .rows, safe .rows);
-              structs = m .structs;
-              enums = m .enums;
-              next = omega (arith, m .next, m .seen, safe .next);
-              seen = omega (arith, m .seen, m .charge, safe .seen);
-            };
+              record {
+                small = safe .small;
+                room = safe .room;
+                from = omega (arith, m .end, safe .from);
+                items = omega (arith, m .end, m .charge, safe .items);
+                low = omega (arith, m .top, safe .low);
+                stack = omega (arith, m .top, m .charge, safe .stack);
+                within = omega (arith, m .charge);
+                blocks = omega (arith, m .blocks, safe .blocks);
+                rows = omega (arith, m .rows, safe .rows);
+                structs = m .structs;
+                enums = m .enums;
+                next = omega (arith, m .next, m .seen, safe .next);
+                seen = omega (arith, m .seen, m .charge, safe .seen);
+              };
           says = λ S k s σ r.
-            rep-push S R n (d .size) (m .says S (withCharge (s .charge + (16 + d .size)) s) σ (there S k) (rep-paid S R n (16 + d .size) r)) (omega (arith, m .top, safe .stack, safe .room, safe .within));
+              rep-push S R n (d .size) (m .says S (withCharge (s .charge + (16 + d .size)) s) σ (there S k) (rep-paid S R n (16 + d .size) r)) (omega (arith, m .top, safe .stack, safe .room, safe .within));
         }
       where
         there : (S : Schema) → Named F d S → isSome (winning S .struct (d .name)) ≡ true
@@ -186,18 +186,18 @@ module _ (F T : Bytes) (R : Round) (n left : ℕ) (d : Def) (fs : Fields) (q₀ 
           few = omega arith;
           safe = x .grew .0;
           grown =
-            record {
-              more = omega (arith, on .grown .more, y .more);
-              paid = omega (arith, on .grown .paid, y .paid);
-              top = omega (arith, on .grown .top, y .top);
-              met = omega (arith, on .grown .met, y .met);
-            };
+              record {
+                more = omega (arith, on .grown .more, y .more);
+                paid = omega (arith, on .grown .paid, y .paid);
+                top = omega (arith, on .grown .top, y .top);
+                met = omega (arith, on .grown .met, y .met);
+              };
           spare = on .spare;
           low = on .low;
           says = λ S a s σ r.
-            let o = on .says S a s σ r in
-            turn S R n (envOf T S R) (deeper T R left S) (defOf F d) fs σ s q t w w' k (memberOf m) (valueIs v) e (ne-eqb (m .name) ARRAYINFO f) found o
-            (x .says S (a .of) (o .state) σ (o .buf) (o .len) (o .rep));
+              let o = on .says S a s σ r in
+              turn S R n (envOf T S R) (deeper T R left S) (defOf F d) fs σ s q t w w' k (memberOf m) (valueIs v) e (ne-eqb (m .name) ARRAYINFO f) found o
+              (x .says S (a .of) (o .state) σ (o .buf) (o .len) (o .rep));
         }
 
     module _ (p : Progress) (w₁ : Bytes) (up : ℕ) (safe : Safe R n p) (some-left : 0 < up) (less : up - 1 ≡ left) (into : Entered F R n p w₁ d q₀ w₀) where
@@ -210,10 +210,10 @@ module _ (F T : Bytes) (R : Round) (n left : ℕ) (d : Def) (fs : Fields) (q₀ 
           record {
             grew = x .grew;
             says = λ S b s σ r.
-              let o = on .says S b (startedIn (d .name) (withCharge (s .charge + (16 + d .size)) s)) σ (into .says S b s σ r) in
-              rw (one-deeper (envOf T S R) up (defOf F d) fs s some-left, less, started-is (envOf T S R) (deeper T R left S) (defOf F d) fs s (rw (← (r .charge)) (into .paid)))
-              (turn-refused S R n (envOf T S R) (deeper T R left S) (defOf F d) fs σ (startedIn (d .name) (withCharge (s .charge + (16 + d .size)) s)) q t w w' k a (memberOf m) (valueIs v) e
-              (ne-eqb (m .name) ARRAYINFO f) found o (x .says S (b .of) (o .state) σ (o .buf) (o .len) (o .rep)));
+                let o = on .says S b (startedIn (d .name) (withCharge (s .charge + (16 + d .size)) s)) σ (into .says S b s σ r) in
+                rw (one-deeper (envOf T S R) up (defOf F d) fs s some-left, less, started-is (envOf T S R) (deeper T R left S) (defOf F d) fs s (rw (← (r .charge)) (into .paid)))
+                (turn-refused S R n (envOf T S R) (deeper T R left S) (defOf F d) fs σ (startedIn (d .name) (withCharge (s .charge + (16 + d .size)) s)) q t w w' k a (memberOf m) (valueIs v) e
+                (ne-eqb (m .name) ARRAYINFO f) found o (x .says S (b .of) (o .state) σ (o .buf) (o .len) (o .rep)));
           }
 
   -- all are written
@@ -222,22 +222,23 @@ module _ (F T : Bytes) (R : Round) (n left : ℕ) (d : Def) (fs : Fields) (q₀ 
   unfolding defOf
   writing-done p w₁ up safe some-left less into h small =
       record {
-        grew =
-          (on .safe,
+        grew = (
+          on .safe,
           record {
             grown =
-              record {
-                more = omega (arith, into .end, on .grown .more);
-                paid = omega (arith, into .end, into .charge, on .grown .paid);
-                top = omega (arith, into .top, on .grown .top);
-                met = omega (arith, into .seen, into .charge, on .grown .met, on .few);
-              };
+                record {
+                  more = omega (arith, into .end, on .grown .more);
+                  paid = omega (arith, into .end, into .charge, on .grown .paid);
+                  top = omega (arith, into .top, on .grown .top);
+                  met = omega (arith, into .seen, into .charge, on .grown .met, on .few);
+                };
             spare = omega (arith, into .seen, into .charge, on .grown .met, on .few);
-          });
+          },
+        );
         says = λ S b s σ r.
-          let o = on .says S b (startedIn (d .name) (withCharge (s .charge + (16 + d .size)) s)) σ (into .says S b s σ r) in
-          rw (one-deeper (envOf T S R) up (defOf F d) fs s some-left, less, started-is (envOf T S R) (deeper T R left S) (defOf F d) fs s (rw (← (r .charge)) (into .paid)))
-          (finish S R n (envOf T S R) (deeper T R left S) (defOf F d) fs σ (startedIn (d .name) (withCharge (s .charge + (16 + d .size)) s)) q w k (rw (count-members F d) h) o);
+            let o = on .says S b (startedIn (d .name) (withCharge (s .charge + (16 + d .size)) s)) σ (into .says S b s σ r) in
+            rw (one-deeper (envOf T S R) up (defOf F d) fs s some-left, less, started-is (envOf T S R) (deeper T R left S) (defOf F d) fs s (rw (← (r .charge)) (into .paid)))
+            (finish S R n (envOf T S R) (deeper T R left S) (defOf F d) fs σ (startedIn (d .name) (withCharge (s .charge + (16 + d .size)) s)) q w k (rw (count-members F d) h) o);
       }
 
 -- 8
@@ -259,6 +260,6 @@ struct-dear F T R n d fs p w up k t safe some-left e =
     (record {
       grew = safe;
       says = λ S b s σ r.
-        rw (one-deeper (envOf T S R) up (defOf F d) fs s some-left, started-dear (envOf T S R) (deeper T R (up - 1) S) (defOf F d) fs s (rw (← (r .charge)) f))
-        (refl, record { state = s; stack = σ; rep = r; met = refl });
+          rw (one-deeper (envOf T S R) up (defOf F d) fs s some-left, started-dear (envOf T S R) (deeper T R (up - 1) S) (defOf F d) fs s (rw (← (r .charge)) f))
+          (refl, record { state = s; stack = σ; rep = r; met = refl });
     })

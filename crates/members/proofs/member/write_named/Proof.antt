@@ -7,7 +7,7 @@ use Rattle.members.proofs.member.write_named.Statement.{statement}
 use Rattle.members.proofs.member.write_named.Tie as tie
 use Rattle.members.proofs.member.write_named.Reads as reads
 use Rattle.members.proofs.member.write_named.Lts as lts
-use Rattle.members.proofs.member.entries_at.Reads as entries-at-reads
+use Rattle.members.proofs.slots.entries_at.Reads as entries-at-reads
 use Rattle.members.proofs.member.enum_size.Reads as enum-size-reads
 use Rattle.members.proofs.member.named_cell.Reads as named-cell-reads
 use Rattle.members.proofs.member.write_cell.Reads as write-cell-reads

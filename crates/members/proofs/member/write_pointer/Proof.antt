@@ -14,8 +14,8 @@ use Rattle.members.proofs.member.write_pointer.Lts as lts
 use Rattle.coerce.proofs.whole.has_str.Reads as has-str-reads
 use Rattle.coerce.proofs.whole.str_of.Reads as str-of-reads
 use Rattle.members.proofs.member.fits.Reads as fits-reads
-use Rattle.members.proofs.member.slot_size.Reads as slot-size-reads
-use Rattle.members.proofs.member.text_slot.Reads as text-slot-reads
+use Rattle.members.proofs.slots.slot_size.Reads as slot-size-reads
+use Rattle.members.proofs.slots.text_slot.Reads as text-slot-reads
 use Rattle.members.proofs.member.wrong.Reads as wrong-reads
 use Rattle.members.proofs.say.Reads as say-reads
 use Rattle.value.proofs.value_row.Reads as value-row-reads

@@ -8,7 +8,7 @@ use Rattle.members.proofs.member.write_text.Statement.{statement}
 use Rattle.members.proofs.member.write_text.Tie as tie
 use Rattle.members.proofs.member.write_text.Reads as reads
 use Rattle.members.proofs.member.write_text.Lts as lts
-use Rattle.members.proofs.member.high_half.Reads as high-half-reads
+use Rattle.members.proofs.slots.high_half.Reads as high-half-reads
 use Rattle.members.proofs.member.write_cell.Reads as write-cell-reads
 use Rattle.members.proofs.member.write_pointer.Reads as write-pointer-reads
 use Rattle.members.proofs.say.Reads as say-reads

@@ -8,7 +8,7 @@ use Rattle.writers.proofs.choose.lay_run.Tie as tie
 use Rattle.writers.proofs.choose.lay_run.Reads as reads
 use Rattle.writers.proofs.choose.lay_run.Lts as lts
 use Rattle.area.proofs.items.lay.Reads as lay-reads
-use Rattle.members.proofs.member.put_counted.Reads as put-counted-reads
+use Rattle.members.proofs.slots.put_counted.Reads as put-counted-reads
 
 -- src/choose.rt:133:11
 lay-requires : tie.Need-lay-requires

@@ -1,20 +1,20 @@
 use Rattle.layout.specs.Members.{putPointer}
 use borrow.Author.Needs.{needs}
-use Rattle.members.proofs.member.put_pointer.Statement.{statement}
-use Rattle.members.proofs.member.put_pointer.Tie as tie
-use Rattle.members.proofs.member.put_pointer.Reads as reads
-use Rattle.members.proofs.member.put_pointer.Lts as lts
+use Rattle.members.proofs.slots.put_pointer.Statement.{statement}
+use Rattle.members.proofs.slots.put_pointer.Tie as tie
+use Rattle.members.proofs.slots.put_pointer.Reads as reads
+use Rattle.members.proofs.slots.put_pointer.Lts as lts
 use Rattle.numbers.proofs.words.write.Reads as write-reads
 
--- src/member.rt:122:5
+-- src/slots.rt:122:5
 write-requires : tie.Need-write-requires
 write-requires c κs = search needs
 
--- src/member.rt:118:1
+-- src/slots.rt:118:1
 same-length : tie.Need-same-length
 same-length c = search needs
 
--- src/member.rt:118:1
+-- src/slots.rt:118:1
 returns : tie.Need-returns
 unfolding putPointer
 returns c = c .before .before .write .ensures
