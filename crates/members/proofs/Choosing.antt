@@ -4,7 +4,7 @@ use mathlib.Core.Logic.{_⊎_, inl, inr}
 use mathlib.Core.Bool.{Bool, true, false, cond, _||_, _&&_, false≢true}
 use mathlib.Core.List.{[], _∷_, _++_}
 use mathlib.Core.Option.{Option, none, some}
-use Prim.Native.Nat.{ℕ, zero, suc, _+_, _-_, _*_, _^_, _≤_, _<_}
+use Prim.Native.Nat.{ℕ, zero, suc, _+_, _-_, _^_, _≤_, _<_}
 use native.Mathlib.Omega.{arith}
 use lib.Dec.{leb, eqb}
 use lib.ListN.{length, take, drop, length-append, drop-of-length-le}
@@ -24,13 +24,13 @@ use Rattle.schema.specs.declared.lookup.Found.{Found}
 use Rattle.schema.specs.declared.lookup.Found.the-variants.{At, Nothing}
 use Rattle.schema.specs.declared.members.Member as coded
 use Rattle.schema.proofs.Inside.{last-inside}
-use Rattle.layout.specs.State.{State, Env, M, after, bind, ret, ifM, optM, fitM, useEnum}
+use Rattle.layout.specs.State.{State, M, after, bind, ret, ifM, optM, fitM, useEnum}
 use Rattle.layout.specs.Kinds as Kinds
 use Rattle.layout.specs.Members.{leaves, need, wrong, slotSize, enumSize, entriesOf, textSlot, scalarMember, fixedMember, pointerMember, hashMember, textMember, useEnumOf, namedMember, enumMember, flagsMember, referenceAt, high16, low12}
 use Rattle.area.specs.declared.Round.{Round}
 use Rattle.area.specs.declared.Progress.{Progress}
-use Rattle.area.specs.Area.{stackAt, Rep, envOf}
-use Rattle.area.specs.Posts.{Safe, Open, Grown, Notes, Meets}
+use Rattle.area.specs.Area.{Rep, envOf}
+use Rattle.area.specs.Posts.{Safe, Open, Notes, Meets}
 use Rattle.members.specs.declared.Def.{Def}
 use Rattle.members.specs.declared.Wrote.{Wrote}
 use Rattle.members.specs.declared.Wrote.the-variants.{Done, Refused}

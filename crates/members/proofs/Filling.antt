@@ -3,7 +3,7 @@ use mathlib.Core.Path.{_≡_, refl, sym, ap, subst, _∙_}
 use mathlib.Core.Bool.{Bool, true, false}
 use mathlib.Core.List.{_++_}
 use mathlib.Core.Option.{none, some}
-use Prim.Native.Nat.{ℕ, _+_, _-_, _*_, _≤_}
+use Prim.Native.Nat.{ℕ, _+_, _-_, _≤_}
 use native.Mathlib.Omega.{arith}
 use lib.Dec.{leb}
 use lib.ListN.{length, take, drop}
@@ -15,13 +15,13 @@ use Rattle.coerce.specs.Numbers.{Fit, fits, unfit, floatText}
 use Rattle.schema.specs.Defs
 use Rattle.schema.specs.Defs.{Schema, StructDef, winning}
 use Rattle.schema.specs.declared.members.Member as coded
-use Rattle.layout.specs.State.{Remark, State, Env, M, Out, done, stop, after, bind, ret, fail, ifM, optM, fitM, remark, settle, onCore, logEnum, useEnumC, useEnum, withRemark}
+use Rattle.layout.specs.State.{Remark, State, M, done, after, bind, ret, fail, ifM, optM, fitM, remark, settle, onCore, logEnum, useEnumC, useEnum, withRemark}
 use Rattle.layout.specs.Kinds as Kinds
-use Rattle.layout.specs.Members.{says, leaves, need, wrong, rowOf}
+use Rattle.layout.specs.Members.{says, leaves, need, wrong}
 use Rattle.area.specs.declared.Round.{Round}
 use Rattle.area.specs.declared.Progress.{Progress}
-use Rattle.area.specs.Area.{stackAt, Rep, usedIn, envOf}
-use Rattle.area.specs.Posts.{Safe, Open, Grown, Notes, Marks, Ans, gives, refuses, Meets}
+use Rattle.area.specs.Area.{Rep, usedIn, envOf}
+use Rattle.area.specs.Posts.{Safe, Open, Notes, Marks, gives}
 use Rattle.area.proofs.Lending.{buffer, lent}
 use Rattle.members.specs.declared.Def.{Def}
 use Rattle.members.specs.declared.Wrote.{Wrote}
@@ -29,7 +29,7 @@ use Rattle.members.specs.declared.Wrote.the-variants.{Done, Refused}
 use Rattle.members.specs.declared.cells.Put.the-variants.{Stored, Unfit, FloatText}
 use Rattle.members.specs.Names.{defOf, memberOf}
 use Rattle.members.specs.Cells.{Puts}
-use Rattle.members.specs.Posts.{remarkOn, Buffer, Went, Fills, Marked, wroteIs, anySchema, cellMember}
+use Rattle.members.specs.Posts.{remarkOn, Buffer, Went, Fills, Marked, anySchema, cellMember}
 
 -- a definition's name and size
 pub def-name : (F : Bytes) (d : Def) → defOf F d .name ≡ d .name
@@ -41,7 +41,7 @@ unfolding defOf
 def-size F d = refl
 
 -- a remark leaves the bytes as they were
-leaves-is : (F : Bytes) (d : Def) (m : coded.Member) (kind detail : ℕ) (buf : Bytes) (s : State)
+pub leaves-is : (F : Bytes) (d : Def) (m : coded.Member) (kind detail : ℕ) (buf : Bytes) (s : State)
     → leaves (defOf F d) (memberOf m) kind detail buf s ≡ done buf (withRemark (remarkOn d m kind detail) s)
 unfolding leaves says remark bind after ret defOf
 leaves-is F d m kind detail buf s = refl

@@ -1,8 +1,5 @@
 -- The answers of `write_struct`.
-use Rattle.area.specs.Posts.{Open}
-use Rattle.members.specs.Posts.{Buffer}
 use Rattle.writers.proofs.Structs.{paid-safe}
-use Rattle.area.specs.Posts.{Safe}
 use Rattle.writers.proofs.Structs.{entered, writing-begin, writing-skip, writing-turn, writing-refused, writing-done, writing-open, writing-low, struct-deep, struct-dear}
 use Rattle.writers.proofs.Nths.{nth-read}
 use native.Mathlib.Omega.{arith}
