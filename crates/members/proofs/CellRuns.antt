@@ -1,6 +1,6 @@
 -- Runs of cells and of texts by pointer, element by element. No line here names a place of the code. Assumes nothing.
-use mathlib.Core.Path.{_≡_, refl, sym, ap, subst, _∙_}
-use mathlib.Core.List.{List, [], _∷_, _++_, append-nil}
+use mathlib.Core.Path.{_≡_, refl, sym, ap, _∙_}
+use mathlib.Core.List.{[], _++_}
 use mathlib.Core.Option.{Option, none, some}
 use Prim.Native.Nat.{ℕ, _+_, _-_, _≤_, _<_}
 use native.Mathlib.Omega.{arith}
@@ -17,8 +17,8 @@ use Rattle.layout.specs.Members.{slotSize, textSlot}
 use Rattle.layout.specs.Runs.{run, textElement}
 use Rattle.area.specs.declared.Round.{Round}
 use Rattle.area.specs.declared.Progress.{Progress}
-use Rattle.area.specs.Area.{stackAt, Rep, withTop, envOf}
-use Rattle.area.specs.Posts.{Safe, Grown, Meets}
+use Rattle.area.specs.Area.{Rep, withTop, envOf}
+use Rattle.area.specs.Posts.{Safe, Meets}
 use Rattle.area.proofs.Flat.{length-zeros, padded-is}
 use Rattle.area.proofs.Reps.{rep-push}
 use Rattle.area.proofs.Lending.{buffer, lent}

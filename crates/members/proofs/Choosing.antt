@@ -4,7 +4,7 @@ use mathlib.Core.Logic.{_⊎_, inl, inr}
 use mathlib.Core.Bool.{Bool, true, false, cond, _||_, _&&_, false≢true}
 use mathlib.Core.List.{[], _∷_, _++_}
 use mathlib.Core.Option.{Option, none, some}
-use Prim.Native.Nat.{ℕ, zero, suc, _+_, _-_, _*_, _^_, _≤_, _<_}
+use Prim.Native.Nat.{ℕ, zero, suc, _+_, _-_, _^_, _≤_, _<_}
 use native.Mathlib.Omega.{arith}
 use lib.Dec.{leb, eqb}
 use lib.ListN.{length, take, drop, length-append, drop-of-length-le}
@@ -24,13 +24,13 @@ use Rattle.schema.specs.declared.lookup.Found.{Found}
 use Rattle.schema.specs.declared.lookup.Found.the-variants.{At, Nothing}
 use Rattle.schema.specs.declared.members.Member as coded
 use Rattle.schema.proofs.Inside.{last-inside}
-use Rattle.layout.specs.State.{State, Env, M, after, bind, ret, ifM, optM, fitM, useEnum}
+use Rattle.layout.specs.State.{State, M, after, bind, ret, ifM, optM, fitM, useEnum}
 use Rattle.layout.specs.Kinds as Kinds
 use Rattle.layout.specs.Members.{leaves, need, wrong, slotSize, enumSize, entriesOf, textSlot, scalarMember, fixedMember, pointerMember, hashMember, textMember, useEnumOf, namedMember, enumMember, flagsMember, referenceAt, high16, low12}
 use Rattle.area.specs.declared.Round.{Round}
 use Rattle.area.specs.declared.Progress.{Progress}
-use Rattle.area.specs.Area.{stackAt, Rep, envOf}
-use Rattle.area.specs.Posts.{Safe, Open, Grown, Notes, Meets}
+use Rattle.area.specs.Area.{Rep, envOf}
+use Rattle.area.specs.Posts.{Safe, Open, Notes, Meets}
 use Rattle.members.specs.declared.Def.{Def}
 use Rattle.members.specs.declared.Wrote.{Wrote}
 use Rattle.members.specs.declared.Wrote.the-variants.{Done, Refused}
@@ -230,6 +230,7 @@ module _ (R : Round) (n : ℕ) (p : Progress) (w T F : Bytes) (d : Def) (m : cod
         grew : (r : Wrote) → Went R n p 0 r → Went R n p 1 r
         grew (Done q) h = (h .0, record { more = h .1 .more; paid = h .1 .paid; top = h .1 .top; met = omega (arith, h .1 .met) })
         grew (Refused k q) h = h
+
         says : (S : Schema) → anySchema S → (s : State) (σ buf : Bytes) → length buf ≡ d .size → Rep S R n s (σ ++ buf) p w
             → Meets S R n (λ b. σ ++ b) (λ b x. length b ≡ d .size) (pointerMember (envOf T S R) D e v buf s) (wroteIs r) w'
         says S z s σ buf l q =
@@ -280,8 +281,13 @@ module _ (R : Round) (n : ℕ) (p : Progress) (w T F : Bytes) (d : Def) (m : cod
   strange-is : (S : Schema) (buf : Bytes) → 4 ≤ m .subtype → (m .subtype < 7) ⊎ (9 ≤ m .subtype) → textMember (envOf T S R) D e v buf ≡ leaves D e 3 (m .subtype) buf
   unfolding textMember ifM
   strange-is S buf h g =
-      rw (ne-eqb (m .subtype) 0 (λ z. omega (arith, z)), le-leb 1 (m .subtype) (omega arith), lt-leb (m .subtype) 3 (omega arith), ne-eqb (m .subtype) 7 (far 7 (λ l. omega (arith, l)) (λ l. omega (arith, l)) g),
-      ne-eqb (m .subtype) 8 (far 8 (λ l. omega (arith, l)) (λ l. omega (arith, l)) g)) refl
+      rw (
+        ne-eqb (m .subtype) 0 (λ z. omega (arith, z)),
+        le-leb 1 (m .subtype) (omega arith),
+        lt-leb (m .subtype) 3 (omega arith),
+        ne-eqb (m .subtype) 7 (far 7 (λ l. omega (arith, l)) (λ l. omega (arith, l)) g),
+        ne-eqb (m .subtype) 8 (far 8 (λ l. omega (arith, l)) (λ l. omega (arith, l)) g),
+      ) refl
     where
       far : (k : ℕ) → (k < 7 → ⊥) → (9 ≤ k → ⊥) → (m .subtype < 7) ⊎ (9 ≤ m .subtype) → m .subtype ≡ k → ⊥
       far k a b (inl l) z = a (omega (arith, z))

@@ -1,5 +1,5 @@
 -- Runs that lead to no structure, by their elements' kind. No line here names a place of the code. Assumes nothing.
-use mathlib.Core.Path.{_≡_, refl, sym, ap, subst, fun-ext, _∙_}
+use mathlib.Core.Path.{_≡_, refl, sym, ap, fun-ext, _∙_}
 use mathlib.Core.List.{List, _++_, append-nil}
 use mathlib.Core.Logic.{_⊎_, inl, inr}
 use mathlib.Core.Bool.{Bool, true, false, cond, false≢true}
@@ -7,12 +7,12 @@ use mathlib.Core.Option.{Option, none, some}
 use Prim.Native.Nat.{ℕ, _+_, _-_, _*_, _≤_, _<_}
 use native.Mathlib.Omega.{arith}
 use borrow.Author.Tests.{eqb-true, eqb-false, eq-eqb, ne-eqb, le-leb, lt-leb}
-use lib.Dec.{leb, eqb}
+use lib.Dec.{eqb}
 use lib.ListN.{length, take}
 use Rattle.numbers.specs.Words.{Bytes, bytesOf, padded, zeros, readAt}
-use Rattle.numbers.specs.Result.{ok, isSome, mapOption, orValue}
+use Rattle.numbers.specs.Result.{ok, isSome, mapOption}
 use Rattle.numbers.proofs.Bytes.{length-bytes}
-use Rattle.value.specs.Rows.{row, rowsFrom}
+use Rattle.value.specs.Rows.{row}
 use Rattle.coerce.specs.Numbers.{Fit, fits, unfit, floatText, mapFit, fitOr, strOf}
 use Rattle.coerce.specs.Names.{hashOf, enumValue}
 use Rattle.schema.specs.Defs
@@ -22,17 +22,16 @@ use Rattle.schema.specs.Answers.{enumFound}
 use Rattle.schema.specs.declared.lookup.Found.{Found}
 use Rattle.schema.specs.declared.lookup.Found.the-variants.{At, Nothing}
 use Rattle.schema.specs.declared.members.Member as coded
-use Rattle.layout.specs.State.{State, Env, M, done, stop, after, bind, ret, ifM, fitM, fail, remark, withRemark, useEnum, logEnum, onCore, settle, useEnumC}
+use Rattle.layout.specs.State.{State, Env, M, done, after, bind, ret, ifM, fitM, remark, withRemark, useEnum, logEnum, onCore, settle, useEnumC}
 use Rattle.layout.specs.Kinds
 use Rattle.layout.specs.Members.{says, high16, slotSize, entriesOf, useEnumOf}
 use Rattle.layout.specs.Runs.{Run, stops, run, textRun, fixedRun, enumRun, fixedElement, hashElement, enumElement, textElement, scalarElement, scalarStride, scalarBlock}
 use Rattle.area.specs.declared.Round.{Round}
 use Rattle.area.specs.declared.Progress.{Progress}
 use Rattle.area.specs.Area.{usedIn, envOf}
-use Rattle.area.specs.Posts.{Safe, Open, Grown, Notes, Marks}
+use Rattle.area.specs.Posts.{Safe, Open, Notes, Marks}
 use Rattle.area.proofs.Flat.{padded-is}
 use Rattle.members.specs.declared.Def.{Def}
-use Rattle.members.specs.declared.cells.Cell.{Cell}
 use Rattle.members.specs.declared.cells.Cell.the-variants as C
 use Rattle.members.specs.declared.Ran.{Ran}
 use Rattle.members.specs.declared.Ran.the-variants as Rn
@@ -40,7 +39,7 @@ use Rattle.members.specs.Names.{defOf, memberOf}
 use Rattle.members.specs.Cells.{cellBytes, cellElement}
 use Rattle.members.specs.Posts.{remarkOn, Grew, Yields, anySchema, slotBlock, plainRun}
 use Rattle.members.proofs.Choosing.{scalarCell}
-use Rattle.members.proofs.Filling.{went-noted, went-marked}
+use Rattle.members.proofs.Filling.{went-noted}
 
 -- a remark stops a run
 stops-is : (F : Bytes) (d : Def) (m : coded.Member) (kind detail : ℕ) (s : State) → stops (defOf F d) (memberOf m) kind detail s ≡ done none (withRemark (remarkOn d m kind detail) s)
@@ -144,6 +143,7 @@ module _ (E : Env) (F : Bytes) where
         seven : A ⊎ B → x .subtype ≡ 7 → ⊥
         seven (inl a) q = omega (arith, f a, q)
         seven (inr b) q = omega (arith, g b, q)
+
         eight : A ⊎ B → x .subtype ≡ 8 → ⊥
         eight (inl a) q = omega (arith, f a, q)
         eight (inr b) q = omega (arith, g b, q)
@@ -188,13 +188,16 @@ module _ (R : Round) (n : ℕ) (p : Progress) (w T F : Bytes) (h : ℕ) (rs : Li
     where
       grew-then : (r : Ran) → Grew R n q 0 r → Grew R n p 0 r
       grew-then (Rn.Kept b x) y =
-          let z = y .2 in
-          (y .0, omega (arith, y .1, t .top), record {
-            more = omega (arith, z .more, t .end);
-            paid = omega (arith, z .paid, t .end, t .charge, t .top);
-            top = omega (arith, z .top, t .top);
-            met = omega (arith, z .met, t .seen, t .charge);
-          })
+          let z = y .2 in (
+            y .0,
+            omega (arith, y .1, t .top),
+            record {
+              more = omega (arith, z .more, t .end);
+              paid = omega (arith, z .paid, t .end, t .charge, t .top);
+              top = omega (arith, z .top, t .top);
+              met = omega (arith, z .met, t .seen, t .charge);
+            },
+          )
       grew-then (Rn.Dropped x) y =
           let z = y .1 in
           (y .0, record { more = omega (arith, z .more, t .end); paid = omega (arith, z .paid, t .end, t .charge); top = omega (arith, z .top, t .top); met = omega (arith, z .met, t .seen, t .charge) })

@@ -3,7 +3,7 @@ use mathlib.Core.Path.{_≡_, refl, sym, ap, subst, _∙_}
 use mathlib.Core.Bool.{Bool, true, false}
 use mathlib.Core.List.{_++_}
 use mathlib.Core.Option.{none, some}
-use Prim.Native.Nat.{ℕ, _+_, _-_, _*_, _≤_}
+use Prim.Native.Nat.{ℕ, _+_, _-_, _≤_}
 use native.Mathlib.Omega.{arith}
 use lib.Dec.{leb}
 use lib.ListN.{length, take, drop}
@@ -15,13 +15,13 @@ use Rattle.coerce.specs.Numbers.{Fit, fits, unfit, floatText}
 use Rattle.schema.specs.Defs
 use Rattle.schema.specs.Defs.{Schema, StructDef, winning}
 use Rattle.schema.specs.declared.members.Member as coded
-use Rattle.layout.specs.State.{Remark, State, Env, M, Out, done, stop, after, bind, ret, fail, ifM, optM, fitM, remark, settle, onCore, logEnum, useEnumC, useEnum, withRemark}
+use Rattle.layout.specs.State.{Remark, State, M, done, after, bind, ret, fail, ifM, optM, fitM, remark, settle, onCore, logEnum, useEnumC, useEnum, withRemark}
 use Rattle.layout.specs.Kinds as Kinds
-use Rattle.layout.specs.Members.{says, leaves, need, wrong, rowOf}
+use Rattle.layout.specs.Members.{says, leaves, need, wrong}
 use Rattle.area.specs.declared.Round.{Round}
 use Rattle.area.specs.declared.Progress.{Progress}
-use Rattle.area.specs.Area.{stackAt, Rep, usedIn, envOf}
-use Rattle.area.specs.Posts.{Safe, Open, Grown, Notes, Marks, Ans, gives, refuses, Meets}
+use Rattle.area.specs.Area.{Rep, usedIn, envOf}
+use Rattle.area.specs.Posts.{Safe, Open, Notes, Marks, gives}
 use Rattle.area.proofs.Lending.{buffer, lent}
 use Rattle.members.specs.declared.Def.{Def}
 use Rattle.members.specs.declared.Wrote.{Wrote}
@@ -29,7 +29,7 @@ use Rattle.members.specs.declared.Wrote.the-variants.{Done, Refused}
 use Rattle.members.specs.declared.cells.Put.the-variants.{Stored, Unfit, FloatText}
 use Rattle.members.specs.Names.{defOf, memberOf}
 use Rattle.members.specs.Cells.{Puts}
-use Rattle.members.specs.Posts.{remarkOn, Buffer, Went, Fills, Marked, wroteIs, anySchema, cellMember}
+use Rattle.members.specs.Posts.{remarkOn, Buffer, Went, Fills, Marked, anySchema, cellMember}
 
 -- a definition's name and size
 pub def-name : (F : Bytes) (d : Def) → defOf F d .name ≡ d .name
@@ -41,7 +41,7 @@ unfolding defOf
 def-size F d = refl
 
 -- a remark leaves the bytes as they were
-leaves-is : (F : Bytes) (d : Def) (m : coded.Member) (kind detail : ℕ) (buf : Bytes) (s : State)
+pub leaves-is : (F : Bytes) (d : Def) (m : coded.Member) (kind detail : ℕ) (buf : Bytes) (s : State)
     → leaves (defOf F d) (memberOf m) kind detail buf s ≡ done buf (withRemark (remarkOn d m kind detail) s)
 unfolding leaves says remark bind after ret defOf
 leaves-is F d m kind detail buf s = refl
@@ -62,43 +62,45 @@ module _ (R : Round) (n : ℕ) (p : Progress) (w : Bytes) where
 
   -- .. after a remark
   pub went-noted : (r : Remark) (q : Progress) (w' : Bytes) → Safe R n p → Open p → Notes R n p w r q w' → Went R n p 1 (Done q)
-  went-noted r q w' h o t =
-      (record {
-        small = h .small;
-        room = h .room;
-        from = omega (arith, h .from, t .end);
-        items = omega (arith, h .items, t .end, t .charge);
-        low = omega (arith, h .low, t .top);
-        stack = omega (arith, h .stack, t .top, t .charge);
-        within = omega (arith, h .within, t .charge);
-        blocks = omega (arith, h .blocks, t .blocks);
-        rows = t .rows;
-        structs = omega (arith, h .structs, t .structs);
-        enums = omega (arith, h .enums, t .enums);
-        next = t .next;
-        seen = omega (arith, o, t .seen, t .charge);
-      },
-      record { more = omega (arith, t .end); paid = omega (arith, t .end, t .charge); top = omega (arith, t .top); met = omega (arith, t .seen, t .charge) })
+  went-noted r q w' h o t = (
+    record {
+      small = h .small;
+      room = h .room;
+      from = omega (arith, h .from, t .end);
+      items = omega (arith, h .items, t .end, t .charge);
+      low = omega (arith, h .low, t .top);
+      stack = omega (arith, h .stack, t .top, t .charge);
+      within = omega (arith, h .within, t .charge);
+      blocks = omega (arith, h .blocks, t .blocks);
+      rows = t .rows;
+      structs = omega (arith, h .structs, t .structs);
+      enums = omega (arith, h .enums, t .enums);
+      next = t .next;
+      seen = omega (arith, o, t .seen, t .charge);
+    },
+    record { more = omega (arith, t .end); paid = omega (arith, t .end, t .charge); top = omega (arith, t .top); met = omega (arith, t .seen, t .charge) },
+  )
 
   -- .. after an enum was used
   pub went-marked : (known : Schema → Bool) (to : State → State) (x : Bytes) (q : Progress) (w' : Bytes) (notes : ℕ) → Safe R n p → Marks R n p x known to q w' → Went R n p notes (Done q)
-  went-marked known to x q w' notes h t =
-      (record {
-        small = h .small;
-        room = h .room;
-        from = omega (arith, h .from, t .end);
-        items = omega (arith, h .items, t .end, t .charge);
-        low = omega (arith, h .low, t .top);
-        stack = omega (arith, h .stack, t .top, t .charge);
-        within = omega (arith, h .within, t .charge);
-        blocks = omega (arith, h .blocks, t .blocks);
-        rows = omega (arith, h .rows, t .rows);
-        structs = t .structs;
-        enums = t .enums;
-        next = omega (arith, h .next, t .next, t .seen);
-        seen = omega (arith, h .seen, t .seen, t .charge);
-      },
-      record { more = omega (arith, t .end); paid = omega (arith, t .end, t .charge); top = omega (arith, t .top); met = omega (arith, t .seen, t .charge) })
+  went-marked known to x q w' notes h t = (
+    record {
+      small = h .small;
+      room = h .room;
+      from = omega (arith, h .from, t .end);
+      items = omega (arith, h .items, t .end, t .charge);
+      low = omega (arith, h .low, t .top);
+      stack = omega (arith, h .stack, t .top, t .charge);
+      within = omega (arith, h .within, t .charge);
+      blocks = omega (arith, h .blocks, t .blocks);
+      rows = omega (arith, h .rows, t .rows);
+      structs = t .structs;
+      enums = t .enums;
+      next = omega (arith, h .next, t .next, t .seen);
+      seen = omega (arith, h .seen, t .seen, t .charge);
+    },
+    record { more = omega (arith, t .end); paid = omega (arith, t .end, t .charge); top = omega (arith, t .top); met = omega (arith, t .seen, t .charge) },
+  )
 
   -- another writer that does the same, where less is known of the schema
   pub fills-as : (known less : Schema → Type 0) (size : ℕ) (f g : Schema → Bytes → M Bytes) (r : Wrote) (w' : Bytes)
@@ -148,10 +150,13 @@ module _ (R : Round) (n : ℕ) (p : Progress) (w : Bytes) where
     where
       inside : p .top ≤ n
       inside = omega (arith, h)
+
       same : (S : Schema) (s : State) (σ buf : Bytes) → length buf ≡ size → Rep S R n s (σ ++ buf) p w → length (over buf off bs) ≡ len
       same S s σ buf i r = ap (λ (x : Bytes). length (over x off bs)) (sym (buffer S R n σ buf at len r inside e (i ∙ sym f))) ∙ ap length (sym g) ∙ l
+
       put : (S : Schema) (s : State) (σ buf : Bytes) → length buf ≡ size → Rep S R n s (σ ++ buf) p w → Rep S R n s (σ ++ over buf off bs) p (putMid at len w c)
       put S s σ buf i r = rw g (lent S R n σ buf at len (λ b. over b off bs) r inside e (i ∙ sym f) (same S s σ buf i r))
+
       go : (b : Bool) → known ≡ b → Marked R n p (putMid at len w c) b name q w'
           → Fills (λ S. b ≡ true → isSome (winning S .enum name) ≡ true) R n p w size (λ S buf. bind (ifM b (useEnum name) (ret tt)) λ _. ret (over buf off bs)) (Done q) w'
       go true u t =
@@ -207,6 +212,7 @@ module _ (R : Round) (n : ℕ) (p : Progress) (w : Bytes) where
         where
           long : length c ≡ wide
           long = l ∙ mid-len low (p .top) w (omega (arith, h))
+
           go : (x : Fit Bytes) → cell row ≡ x → Puts x part (m .offset) Stored c → Fills found R n p w (d .size) cells (Done q) w'
           go (fits bs) g y =
               fills-as found found (d .size) cells (λ S buf. bind (ifM known (useEnum name) (ret tt)) λ _. ret (over buf (m .offset) bs)) (Done q) w'

@@ -1,6 +1,6 @@
 -- Runs, element by element, whatever the elements are. No line here names a place of the code. Assumes nothing.
 use mathlib.Core.Path.{_≡_, refl, sym, ap, subst, _∙_}
-use mathlib.Core.Bool.{Bool, true, false, cond}
+use mathlib.Core.Bool.{Bool, true, false}
 use mathlib.Core.List.{List, [], _∷_, _++_, append-assoc, append-nil}
 use mathlib.Core.Option.{Option, none, some}
 use Prim.Native.Nat.{ℕ, zero, suc, _+_, _-_, _*_, _^_, _≤_, _<_}
@@ -9,7 +9,7 @@ use borrow.Author.Tests.{leb-true}
 use native.Mathlib.Nat.{mul-le-mul, mul-le-mul-left, mul-le-mul-right, mul-assoc}
 use lib.Dec.{leb}
 use lib.ListN.{length, drop, length-append, drop-of-length-le}
-use Rattle.numbers.specs.Words.{Bytes, over, zeros}
+use Rattle.numbers.specs.Words.{Bytes}
 use Rattle.numbers.specs.Result.{mapOption}
 use Rattle.value.specs.Rows.{rowsFrom}
 use Rattle.schema.specs.Defs.{Schema}
@@ -18,14 +18,14 @@ use Rattle.layout.specs.Runs.{Run, elements, run}
 use Rattle.area.specs.declared.Round.{Round}
 use Rattle.area.specs.declared.Progress.{Progress}
 use Rattle.area.specs.Area.{stackAt, Rep, withTop, withPaid, envOf}
-use Rattle.area.specs.Posts.{Safe, Grown, Stopped, Meets}
+use Rattle.area.specs.Posts.{Safe, Grown, Stopped}
 use Rattle.area.proofs.Reps.{rep-pop}
 use Rattle.members.specs.declared.Wrote.{Wrote}
 use Rattle.members.specs.declared.Wrote.the-variants.{Done, Refused}
 use Rattle.members.specs.declared.Ran.{Ran}
 use Rattle.members.specs.declared.Ran.the-variants as Rn
-use Rattle.members.specs.Posts.{paidIs, ranIs, runBytes, Grew, Yields, Fell}
-use Rattle.members.proofs.Slotting.{rep-paid, safe-paid}
+use Rattle.members.specs.Posts.{paidIs, Yields, Fell}
+use Rattle.members.proofs.Slotting.{paid-yes, paid-no, rep-paid, safe-paid}
 
 -- what the elements so far give stands before what the others give
 abbrev pub joinOut : Bytes → Out (Option Bytes) → Out (Option Bytes)
@@ -123,42 +123,19 @@ row-ith r (suc n) (suc i) h =
 
 -- the charge is paid
 
-abbrev progressOf : Wrote → Progress
-progressOf (Done q) = q
-progressOf (Refused k q) = q
-
-abbrev numberOf : Wrote → ℕ
-numberOf (Done q) = 0
-numberOf (Refused k q) = k
-
-abbrev isDone : Wrote → Type 0
-isDone (Done q) = ⊥
-isDone (Refused k q) = Unit {0}
-
-not-done : {k : ℕ} {q s : Progress} → Refused k q ≡ Done s → ⊥
-not-done e = subst isDone e tt
-
 -- the charge was enough, and is s's then
 pub record Paid (R : Round) (p : Progress) (c : ℕ) (s : Progress) : Type 0 where
   pub enough : leb (p .charge + c) (R .cap) ≡ true
   pub is : withPaid p (p .charge + c) ≡ s
 
 pub paid-done : (R : Round) (p : Progress) (c d : ℕ) (r : Wrote) (s : Progress) → d ≡ c → r ≡ paidIs R p d → r ≡ Done s → Paid R p c s
-paid-done R p c d r s e g h = by-test (leb (p .charge + c) (R .cap)) refl (ap (paidIs R p) (sym e) ∙ sym g ∙ h)
-  where
-    by-test : (b : Bool) → leb (p .charge + c) (R .cap) ≡ b → cond b (Done (withPaid p (p .charge + c))) (Refused 9 p) ≡ Done s → Paid R p c s
-    by-test true t g = record { enough = t; is = ap progressOf g }
-    by-test false t g = absurd (not-done g)
+paid-done R p c d r s e g h = let (a, b) = paid-yes R p c r s (g ∙ ap (paidIs R p) e) h in record { enough = a; is = sym b }
 
 pub paid-top : {R : Round} {p s : Progress} {c : ℕ} → Paid R p c s → s .top ≡ p .top
 paid-top d = ap (λ (q : Progress). q .top) (sym (d .is))
 
 pub paid-not : (R : Round) (p : Progress) (c d k : ℕ) (r : Wrote) (q : Progress) → d ≡ c → r ≡ paidIs R p d → r ≡ Refused k q → (leb (p .charge + c) (R .cap) ≡ false) × (9 ≡ k) × (p ≡ q)
-paid-not R p c d k r q e g h = by-test (leb (p .charge + c) (R .cap)) (ap (paidIs R p) (sym e) ∙ sym g ∙ h)
-  where
-    by-test : (b : Bool) → cond b (Done (withPaid p (p .charge + c))) (Refused 9 p) ≡ Refused k q → (b ≡ false) × (9 ≡ k) × (p ≡ q)
-    by-test true g = absurd (not-done (sym g))
-    by-test false g = (refl, ap numberOf g, ap progressOf g)
+paid-not R p c d k r q e g h = let (a, b, z) = paid-no R p c r k q (g ∙ ap (paidIs R p) e) h in (a, sym b, sym z)
 
 -- there is room for m elements of `stride` bytes
 pub record Ready (R : Round) (n stride m : ℕ) (s : Progress) : Type 0 where

@@ -1,26 +1,26 @@
 -- Texts by pointer. No line here names a place of the code. Assumes nothing.
-use mathlib.Core.Path.{_≡_, refl, sym, ap, subst, _∙_}
+use mathlib.Core.Path.{_≡_, refl, sym, ap, _∙_}
 use mathlib.Core.Bool.{Bool, true, false, cond, false≢true}
 use mathlib.Core.List.{[], _∷_, _++_}
-use Prim.Native.Nat.{ℕ, _+_, _-_, _*_, _≤_, _<_}
+use Prim.Native.Nat.{ℕ, _+_, _-_, _≤_}
 use native.Mathlib.Omega.{arith}
 use lib.Dec.{leb, eqb}
 use borrow.Author.Tests.{leb-true}
 use lib.ListN.{length, length-append}
-use Rattle.numbers.specs.Words.{Bytes, bytesOf, over, isEmpty}
+use Rattle.numbers.specs.Words.{Bytes, bytesOf, over}
 use Rattle.numbers.proofs.Bytes.{length-bytes}
 use Rattle.schema.specs.Defs.{Schema}
-use Rattle.layout.specs.State.{State, Env, M, Out, done, stop, after, bind, ret, ifM, pay, addItem, withCharge}
+use Rattle.layout.specs.State.{State, Out, done, stop, after, bind, ret, ifM, pay, addItem, withCharge}
 use Rattle.layout.specs.Members.{putPointer, putCounted, slotSize, addString, textSlot}
 use Rattle.area.specs.declared.Round.{Round}
 use Rattle.area.specs.declared.Progress.{Progress}
 use Rattle.area.specs.Area.{stackAt, Rep, withPaid, envOf}
-use Rattle.area.specs.Posts.{Safe, Grown, Ans, gives, refuses, Meets, Stopped, Larger, Enlarged, LaysText}
+use Rattle.area.specs.Posts.{Safe, gives, refuses, Meets, Larger, LaysText}
 use Rattle.area.proofs.Over.{over-seq, length-over}
 use Rattle.area.proofs.Reps.{rep-put}
 use Rattle.members.specs.declared.Wrote.{Wrote}
 use Rattle.members.specs.declared.Wrote.the-variants.{Done, Refused}
-use Rattle.members.specs.Posts.{paidIs, Went, Slots, wroteIs}
+use Rattle.members.specs.Posts.{paidIs, Went, Slots}
 
 -- a pointer with a count, in three steps
 pub counted : (w a b c : Bytes) (at x n : ℕ) → at + 12 ≤ length w → a ≡ putPointer w at x → b ≡ over a (at + 8) (bytesOf 2 n) → c ≡ over b (at + 10) (bytesOf 2 n) → c ≡ putCounted w at x n
@@ -31,6 +31,27 @@ counted w a b c at x n h e f g =
     let t : at + 10 ≡ (at + 8) + length (bytesOf 2 n) = omega arith in
     g ∙ ap (λ (y : Bytes). over y (at + 10) (bytesOf 2 n)) f ∙ ap (λ (i : ℕ). over (over a (at + 8) (bytesOf 2 n)) i (bytesOf 2 n)) t
     ∙ over-seq a (at + 8) (bytesOf 2 n) (bytesOf 2 n) (omega arith) ∙ ap (λ (y : Bytes). over y (at + 8) (bytesOf 2 n ++ bytesOf 2 n)) e
+
+-- the count, twice in two bytes
+length-count : (n : ℕ) → length (bytesOf 2 n ++ bytesOf 2 n) ≡ 4
+length-count n = length-append (bytesOf 2 n) (bytesOf 2 n) ∙ omega (arith, length-bytes 2 n)
+
+-- a pointer with its count has 12 bytes
+pub length-counted : (buf : Bytes) (off x n : ℕ) → off + 12 ≤ length buf → length (putCounted buf off x n) ≡ length buf
+unfolding putCounted putPointer
+length-counted buf off x n h =
+    let l : length (over buf off (bytesOf 4 x)) ≡ length buf = length-over buf off (bytesOf 4 x) (omega (arith, length-bytes 4 x)) in
+    length-over (over buf off (bytesOf 4 x)) (off + 8) (bytesOf 2 n ++ bytesOf 2 n) (omega (arith, length-count n)) ∙ l
+
+-- .. put into the buffer that is the stack's top
+pub rep-counted : (S : Schema) (R : Round) (n : ℕ) {s : State} {p : Progress} {w : Bytes} (σ buf : Bytes) (off at x count : ℕ) → Rep S R n s (σ ++ buf) p w → p .top ≤ n
+    → off + 12 ≤ length buf → stackAt R + length σ + off ≡ at → Rep S R n s (σ ++ putCounted buf off x count) p (putCounted w at x count)
+unfolding putCounted putPointer
+rep-counted S R n σ buf off at x count r h l e =
+    let a = bytesOf 4 x in
+    let k : length (over buf off a) ≡ length buf = length-over buf off a (omega (arith, length-bytes 4 x)) in
+    rep-put S R n σ (over buf off a) (bytesOf 2 count ++ bytesOf 2 count) (off + 8) (at + 8)
+    (rep-put S R n σ buf a off at r h (omega (arith, length-bytes 4 x)) e) h (omega (arith, length-count count)) (omega arith)
 
 abbrev isDone : Wrote → Bool
 isDone (Done q) = true
@@ -112,23 +133,24 @@ module _ (R : Round) (n : ℕ) (p : Progress) where
 
   -- .. and with a text laid, whose charge is paid
   pub laid-went : (len : ℕ) (q : Progress) → Safe R n p → p .charge + (16 + len) ≤ R .cap → Larger (withPaid p (p .charge + (16 + len))) len (p .top) q → Went R n p 0 (Done q)
-  laid-went len q h l g =
-      (record {
-        small = h .small;
-        room = h .room;
-        from = omega (arith, h .from, g .end);
-        items = omega (arith, h .items, g .end, g .charge);
-        low = omega (arith, h .low, g .top);
-        stack = omega (arith, h .stack, g .top, g .charge);
-        within = omega (arith, g .charge);
-        blocks = g .blocks;
-        rows = omega (arith, h .rows, g .rows);
-        structs = omega (arith, h .structs, g .structs);
-        enums = omega (arith, h .enums, g .enums);
-        next = omega (arith, h .next, g .next, g .seen);
-        seen = omega (arith, h .seen, g .seen, g .charge);
-      },
-      record { more = omega (arith, g .end); paid = omega (arith, g .end, g .charge); top = omega (arith, g .top); met = omega (arith, g .seen, g .charge) })
+  laid-went len q h l g = (
+    record {
+      small = h .small;
+      room = h .room;
+      from = omega (arith, h .from, g .end);
+      items = omega (arith, h .items, g .end, g .charge);
+      low = omega (arith, h .low, g .top);
+      stack = omega (arith, h .stack, g .top, g .charge);
+      within = omega (arith, g .charge);
+      blocks = g .blocks;
+      rows = omega (arith, h .rows, g .rows);
+      structs = omega (arith, h .structs, g .structs);
+      enums = omega (arith, h .enums, g .enums);
+      next = omega (arith, h .next, g .next, g .seen);
+      seen = omega (arith, h .seen, g .seen, g .charge);
+    },
+    record { more = omega (arith, g .end); paid = omega (arith, g .end, g .charge); top = omega (arith, g .top); met = omega (arith, g .seen, g .charge) },
+  )
 
 module _ (R : Round) (n : ℕ) (p : Progress) (w : Bytes) (sub : ℕ) (t : Bytes) (at : ℕ) (safe : Safe R n p) where
   abbrev price : ℕ
@@ -236,17 +258,10 @@ module _ (R : Round) (n : ℕ) (p : Progress) (w : Bytes) (sub : ℕ) (t : Bytes
               (rep-put S R n σ buf (bytesOf 4 x) off at r (top-inside x q w' a) (omega arith) i, length-over buf off (bytesOf 4 x) (omega arith))
 
       pub text-counted : (x : ℕ) (q : Progress) (w' : Bytes) → eqb sub 3 ≡ true → LaysText R n (withPaid p (p .charge + price)) w t (gives x q) w' → Slots R n p w sub t at (Done q) (putCounted w' at x (length t))
-      unfolding putPointer putCounted
       text-counted x q w' e a = laid (λ b o y. putCounted b o y (length t)) x q w' a (λ buf off. rw e refl) put
         where
           put : (S : Schema) (s : State) (σ buf : Bytes) (off : ℕ) → stackAt R + length σ + off ≡ at → off + slotSize sub ≤ length buf → Rep S R n s (σ ++ buf) q w'
               → Rep S R n s (σ ++ putCounted buf off x (length t)) q (putCounted w' at x (length t)) × (length (putCounted buf off x (length t)) ≡ length buf)
           put S s σ buf off i l r =
-              let k : length (bytesOf 4 x) ≡ 4 = length-bytes 4 x in
-              let j : length (bytesOf 2 (length t)) ≡ 2 = length-bytes 2 (length t) in
-              let u : length (bytesOf 2 (length t) ++ bytesOf 2 (length t)) ≡ length (bytesOf 2 (length t)) + length (bytesOf 2 (length t)) = length-append (bytesOf 2 (length t)) (bytesOf 2 (length t)) in
               let m : slotSize sub ≡ 16 = rw e refl in
-              let z : length (over buf off (bytesOf 4 x)) ≡ length buf = length-over buf off (bytesOf 4 x) (omega arith) in
-              let d = rep-put S R n σ buf (bytesOf 4 x) off at r (top-inside x q w' a) (omega arith) i in
-              (rep-put S R n σ (over buf off (bytesOf 4 x)) (bytesOf 2 (length t) ++ bytesOf 2 (length t)) (off + 8) (at + 8) d (top-inside x q w' a) (omega arith) (omega arith),
-              length-over (over buf off (bytesOf 4 x)) (off + 8) (bytesOf 2 (length t) ++ bytesOf 2 (length t)) (omega arith) ∙ z)
+              (rep-counted S R n σ buf off at x (length t) r (top-inside x q w' a) (omega arith) i, length-counted buf off x (length t) (omega arith))

@@ -23,6 +23,7 @@ pub mod cells;
 pub mod kinds;
 pub mod member;
 pub mod runs;
+pub mod slots;
 
 // A structure's definition: its name, its place in the schema file, its size and how many members it has.
 pub struct Def {

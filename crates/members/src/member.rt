@@ -7,17 +7,17 @@ use crate::cells::put_cell;
 use crate::kinds::Kind;
 use crate::kinds::kind_of;
 use crate::kinds::type_number;
-use crate::pay;
 use crate::reference_at;
 use crate::say;
-use area::Laid;
+use crate::slots::entries_at;
+use crate::slots::high_half;
+use crate::slots::slot_size;
+use crate::slots::text_slot;
 use area::Progress;
 use area::Round;
-use area::items::lay_text;
 use area::used::use_enum;
 use coerce::whole::has_str;
 use coerce::whole::str_of;
-use numbers::words::write;
 use schema::lookup::Found as Place;
 use schema::lookup::find_enum;
 use schema::members::Member;
@@ -114,64 +114,6 @@ fn write_cell(
     }
 }
 
-// A pointer at `at`.
-pub fn put_pointer(work: &mut [u8], at: usize, x: u32)
-    requires { ⌜ at + 4 ≤ length (now work) ⌝ }
-    ensures { λ _. ⌜ now (work .exit) ≡ Members.putPointer (now (work .entry)) at x ⌝ }
-{
-    write(work, at, 4, x as u64);
-}
-
-// A pointer with a count.
-pub fn put_counted(work: &mut [u8], at: usize, x: u32, n: usize)
-    requires { ⌜ at + 12 ≤ length (now work) ⌝ }
-    ensures { λ _. ⌜ now (work .exit) ≡ Members.putCounted (now (work .entry)) at x n ⌝ }
-{
-    put_pointer(work, at, x);
-    write(work, at + 8, 2, n as u64);
-    write(work, at + 10, 2, n as u64);
-}
-
-// How many bytes a text by pointer has in its structure.
-pub fn slot_size(sub: u8) -> usize
-    ensures { λ r. ⌜ (r ≡ Members.slotSize sub) × (8 ≤ r) × (r ≤ 16) ⌝ }
-{
-    if sub == 3 { 16 } else { 8 }
-}
-
-// A text is laid, and its pointer stands at `at`, with its length where the subtype is 3; an empty text is not laid.
-pub fn text_slot(
-    work: &mut [u8],
-    round: Round,
-    p: Progress,
-    sub: u8,
-    text: &[u8],
-    at: usize,
-) -> Wrote
-    requires { ⌜ Safe round (length (now work)) p ⌝ }
-    requires { ⌜ (stackAt round ≤ at) × (at + Members.slotSize sub ≤ p .top) × (length (now text) < 2 ^ 40) ⌝ }
-    ensures { λ r. ⌜ Slots round (length (now (work .entry))) p (now (work .entry)) sub (now (text .entry)) at r (now (work .exit)) ⌝ }
-{
-    let n = text.len();
-    if n == 0 {
-        return Wrote::Done(p);
-    }
-    match pay(round, p, 16 + (n + 1)) {
-        Wrote::Refused(k, q) => Wrote::Refused(k, q),
-        Wrote::Done(q) => match lay_text(work, round, q, text) {
-            Laid::Refused(k, s) => Wrote::Refused(k, s),
-            Laid::At(x, s) => {
-                if sub == 3 {
-                    put_counted(work, at, x, n);
-                } else {
-                    put_pointer(work, at, x);
-                }
-                Wrote::Done(s)
-            }
-        },
-    }
-}
-
 // A text by pointer.
 fn write_pointer(
     sheet: &[u8],
@@ -197,13 +139,6 @@ fn write_pointer(
     }
     let at = p.top - (d.size as usize) + (m.offset as usize);
     text_slot(work, round, p, m.subtype, str_of(sheet, row), at)
-}
-
-// The high half of a reference.
-pub fn high_half(x: u32) -> u32
-    ensures { λ r. ⌜ (r ≡ Members.high16 x) × (r < 65536) ⌝ }
-{
-    x / 65536
 }
 
 // A text, by its subtype.
@@ -279,18 +214,6 @@ fn named_cell(flags: bool, at: usize, n: usize, k: usize) -> Cell
         return Cell::Flags(at, n, k);
     }
     Cell::Enum(at, n, k)
-}
-
-// Where the entries of the enum at a place begin; the file's end, where that is before it.
-pub fn entries_at(schema: &[u8], place: usize) -> usize
-    requires { ⌜ place < length (now schema) ⌝ }
-    ensures { λ r. ⌜ (r < 2 ^ 63) × ((n : ℕ) → entriesAt (now (schema .entry)) n r ≡ entriesAt (now (schema .entry)) n (place + 4)) ⌝ }
-{
-    let at = place + 4;
-    if schema.len() < at {
-        return schema.len();
-    }
-    at
 }
 
 // An enum or flags member, by the entries of the enum h.

@@ -114,8 +114,8 @@ module _ (T F : Bytes) (R : Round) (n : ℕ) (w : Bytes) (d : Def) where
         record {
           safe = x .grew;
           says = λ S e f g h.
-            rw (← (at-root S e f h))
-            (go S (write (envOf T S R) 32 32 (defOf F d) (fieldsOf T (row T 0)) emptyState) (x .says S (known S f) emptyState [] (rw zero (rep-empty S R n room g))));
+              rw (← (at-root S e f h))
+              (go S (write (envOf T S R) 32 32 (defOf F d) (fieldsOf T (row T 0)) emptyState) (x .says S (known S f) emptyState [] (rw zero (rep-empty S R n room g))));
         }
       where
         go : (S : Schema) (o : Out Bytes) → Meets S R n (λ b. [] ++ b) (λ b (x : Unit {0}). length b ≡ d .size) o (refuses k t) v
@@ -149,20 +149,20 @@ module _ (T F : Bytes) (R : Round) (n : ℕ) (w : Bytes) (d : Def) where
         let l = y .grew in
         record {
           safe =
-            record {
-              small = s .small;
-              room = s .room;
-              from = omega (arith, s .from, l .end);
-              items = omega (arith, l .end, l .charge, g .paid);
-              low = omega (arith, l .top, g .top);
-              stack = omega (arith, l .top, l .charge, g .top);
-              within = omega (arith, l .charge, s .within);
-              blocks = l .blocks;
-              rows = omega (arith, l .rows, s .rows);
-              structs = omega (arith, l .structs, s .structs);
-              enums = omega (arith, l .enums, s .enums);
-              next = omega (arith, l .next, l .seen, s .next);
-              seen = omega (arith, l .seen, l .charge, s .seen);
-            };
+              record {
+                small = s .small;
+                room = s .room;
+                from = omega (arith, s .from, l .end);
+                items = omega (arith, l .end, l .charge, g .paid);
+                low = omega (arith, l .top, g .top);
+                stack = omega (arith, l .top, l .charge, g .top);
+                within = omega (arith, l .charge, s .within);
+                blocks = l .blocks;
+                rows = omega (arith, l .rows, s .rows);
+                structs = omega (arith, l .structs, s .structs);
+                enums = omega (arith, l .enums, s .enums);
+                next = omega (arith, l .next, l .seen, s .next);
+                seen = omega (arith, l .seen, l .charge, s .seen);
+              };
           says = λ S e f g h. rw (← (at-root S e f h)) (laid t v x (L.At a q) u y S f g);
         }

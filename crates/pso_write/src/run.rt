@@ -41,7 +41,14 @@ fn begun(round: Round) -> Progress
 }
 
 // Runs the layout from its beginning to its end.
-pub fn run_round(sheet: &[u8], schema: &[u8], work: &mut [u8], round: Round, place: usize, name: u32) -> Ran
+pub fn run_round(
+    sheet: &[u8],
+    schema: &[u8],
+    work: &mut [u8],
+    round: Round,
+    place: usize,
+    name: u32,
+) -> Ran
     requires { ⌜ Roomy round (length (now work)) × (now work ≡ zeros (length (now work))) × Rooted (now schema) round place name ⌝ }
     ensures { λ r. ⌜ Runs (now (sheet .entry)) (now (schema .entry)) round (length (now (work .entry))) name r (now (work .exit)) ⌝ }
 {
@@ -55,7 +62,16 @@ pub fn run_round(sheet: &[u8], schema: &[u8], work: &mut [u8], round: Round, pla
         size: size,
         count: count,
     };
-    match write_struct(sheet, schema, work, round, 32, begun(round), d, Source::Row(0)) {
+    match write_struct(
+        sheet,
+        schema,
+        work,
+        round,
+        32,
+        begun(round),
+        d,
+        Source::Row(0),
+    ) {
         Wrote::Refused(k, t) => Ran::Refused(k, t),
         Wrote::Done(t) => match lay(work, round, t, name, len) {
             Laid::Refused(k, u) => Ran::Refused(k, u),

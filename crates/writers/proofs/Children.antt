@@ -13,11 +13,6 @@ use Rattle.layout.specs.State.{Env}
 use Rattle.layout.specs.Write.{pairsOf, isArrayValue}
 use Rattle.writers.specs.Sources.{itemCount, pairCount, least}
 
-pub length-rows : (r n : ℕ) → length (rowsFrom r n) ≡ n
-unfolding rowsFrom
-length-rows r zero = refl
-length-rows r (suc n) = ap suc (length-rows (suc r) n)
-
 -- the first k of n rows
 take-rows : (r n k : ℕ) → k ≤ n → take k (rowsFrom r n) ≡ rowsFrom r k
 unfolding rowsFrom

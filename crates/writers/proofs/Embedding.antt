@@ -10,7 +10,7 @@ use lib.ListN.{length, take, drop, length-append}
 use Rattle.numbers.specs.Words.{Bytes, over, zeros}
 use Rattle.schema.specs.Defs.{Schema}
 use Rattle.schema.specs.declared.members.Member as coded
-use Rattle.layout.specs.State.{State, M, done, ret, bind, after, ifM, remark, withRemark}
+use Rattle.layout.specs.State.{State, M, done, ret, remark, withRemark}
 use Rattle.layout.specs.Members.{need, leaves, says}
 use Rattle.area.specs.declared.Round.{Round}
 use Rattle.area.specs.declared.Progress.{Progress}
@@ -22,6 +22,7 @@ use Rattle.members.specs.declared.Def.{Def}
 use Rattle.members.specs.declared.Wrote.the-variants.{Done}
 use Rattle.members.specs.Names.{defOf, memberOf}
 use Rattle.members.specs.Posts.{Fell, remarkOn, wroteIs}
+use Rattle.members.proofs.Filling.{def-size, leaves-is, need-no, need-yes, went-noted}
 use Rattle.writers.specs.Posts.{Embeds}
 use Rattle.writers.proofs.Lodging.{top-within}
 
@@ -33,24 +34,17 @@ fit-within fit a b e f = leb-true a b (sym e ∙ not-false fit f)
 -- it fits
 pub need-fits : (F : Bytes) (d : Def) (m : coded.Member) (k : ℕ) (buf : Bytes) (f : M Bytes) (s : State) → leb (m .offset + k) (d .size) ≡ true
     → need (defOf F d) (memberOf m) k buf f s ≡ f s
-unfolding need defOf ifM
-need-fits F d m k buf f s e = rw e refl
-
--- a remark, and the bytes as they were
-pub leaves-out : (F : Bytes) (d : Def) (m : coded.Member) (kind detail : ℕ) (buf : Bytes) (s : State)
-    → leaves (defOf F d) (memberOf m) kind detail buf s ≡ done buf (withRemark (remarkOn d m kind detail) s)
-unfolding leaves says bind after remark ret defOf
-leaves-out F d m kind detail buf s = refl
+need-fits F d m k buf f s e = ap (λ (a : M Bytes). a s) (need-yes (defOf F d) (memberOf m) k buf f (rw (def-size F d) e))
 
 -- it does not: remark 1
 pub need-leaves : (F : Bytes) (d : Def) (m : coded.Member) (k : ℕ) (buf : Bytes) (f : M Bytes) (s : State) → leb (m .offset + k) (d .size) ≡ false
     → need (defOf F d) (memberOf m) k buf f s ≡ leaves (defOf F d) (memberOf m) 1 (d .size) buf s
-unfolding need ifM defOf
-need-leaves F d m k buf f s e = rw e refl
+need-leaves F d m k buf f s e =
+    ap (λ (a : M Bytes). a s) (need-no (defOf F d) (memberOf m) k buf f (rw (def-size F d) e)) ∙ ap (λ (x : ℕ). leaves (defOf F d) (memberOf m) 1 x buf s) (def-size F d)
 
 pub need-wide : (F : Bytes) (d : Def) (m : coded.Member) (k : ℕ) (buf : Bytes) (f : M Bytes) (s : State) → leb (m .offset + k) (d .size) ≡ false
     → need (defOf F d) (memberOf m) k buf f s ≡ done buf (withRemark (remarkOn d m 1 (d .size)) s)
-need-wide F d m k buf f s e = need-leaves F d m k buf f s e ∙ leaves-out F d m 1 (d .size) buf s
+need-wide F d m k buf f s e = need-leaves F d m k buf f s e ∙ leaves-is F d m 1 (d .size) buf s
 
 -- ---- the numbers
 -- they stay in order when the stack's top goes
@@ -71,31 +65,13 @@ safe-pop R n p base safe low high = record {
   seen = safe .seen;
 }
 
--- .. when a remark is met
-pub safe-noted : (R : Round) (n : ℕ) (p : Progress) (w : Bytes) (r : _) (q : Progress) (w' : Bytes) → Safe R n p → Open p → Notes R n p w r q w' → Safe R n q
-safe-noted R n p w r q w' safe more h = record {
-  small = safe .small;
-  room = safe .room;
-  from = omega (arith, h .end, safe .from);
-  items = omega (arith, h .end, h .charge, safe .items);
-  low = omega (arith, h .top, safe .low);
-  stack = omega (arith, h .top, h .charge, safe .stack);
-  within = omega (arith, h .charge, safe .within);
-  blocks = omega (arith, h .blocks, safe .blocks);
-  rows = h .rows;
-  structs = omega (arith, h .structs, safe .structs);
-  enums = omega (arith, h .enums, safe .enums);
-  next = h .next;
-  seen = omega (arith, h .seen, h .charge, more);
-}
-
 module _ (R : Round) (n base : ℕ) (q : Progress) (w : Bytes) (d : Def) (m : coded.Member) (safe : Safe R n q) (more : Open q) (low : stackAt R + d .size ≤ base) (high : base ≤ q .top) where
   -- the run is too long
   pub embeds-wide : (fit : Bool) (k : ℕ) (q' : Progress) (w' : Bytes) (t : Progress) (w'' : Bytes) → fit ≡ leb (m .offset + (q .top - base)) (d .size) → not fit ≡ true → Fell q base w q' w' → k ≡ n
       → Notes R k q' w' (remarkOn d m 1 (d .size)) t w'' → Embeds R n base q w d m (Done t) w''
   embeds-wide fit k q' w' t w'' e f fell i h = record {
     grew = (
-      safe-noted R n (withTop q base) w' (remarkOn d m 1 (d .size)) t w'' (safe-pop R n q base safe (omega arith) high) more noted,
+      went-noted R n (withTop q base) w' (remarkOn d m 1 (d .size)) t w'' (safe-pop R n q base safe (omega arith) high) more noted .0,
       record { end = noted .end; top = noted .top; charge = noted .charge; seen = omega (arith, noted .seen) },
     );
     says = λ F S s σ buf b l g rep. wide F S s σ buf b l g rep;

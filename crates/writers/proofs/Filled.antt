@@ -1,4 +1,4 @@
--- What a member's writer has done: it stayed, met a remark, or wrote a run and did something with it. Assumes nothing.
+-- What a member's writer has done: it wrote a run and did something with it. Assumes nothing.
 use mathlib.Core.Path.{_≡_, subst, _∙_}
 use mathlib.Core.List.{_++_, append-nil}
 use mathlib.Core.Option.{Option, none, some}
@@ -10,50 +10,27 @@ use Rattle.numbers.specs.Result.{mapOption}
 use Rattle.schema.specs.Defs.{Schema}
 use Rattle.schema.specs.declared.members.Member as coded
 use Rattle.layout.specs.State.{State, M, done, ret, bind, optM, addItem}
-use Rattle.layout.specs.Members.{need, leaves, putCounted}
+use Rattle.layout.specs.Members.{need, putCounted}
 use Rattle.layout.specs.Runs.{Run}
 use Rattle.area.specs.declared.Round.{Round}
 use Rattle.area.specs.declared.Progress.{Progress}
 use Rattle.area.specs.Area.{itemsAt, stackAt, Rep}
-use Rattle.area.specs.Posts.{Safe, Open, Notes, Meets}
+use Rattle.area.specs.Posts.{Safe, Open, Meets}
 use Rattle.members.specs.declared.Def.{Def}
 use Rattle.members.specs.declared.Wrote.{Wrote}
 use Rattle.members.specs.declared.Wrote.the-variants.{Done, Refused}
 use Rattle.members.specs.declared.Ran.{Ran}
 use Rattle.members.specs.declared.Ran.the-variants as Rn
 use Rattle.members.specs.Names.{defOf, memberOf}
-use Rattle.members.specs.Posts.{Fills, Yields, Went, remarkOn, wroteIs, runBytes}
+use Rattle.members.specs.Posts.{Fills, Yields, Went, wroteIs, runBytes}
+use Rattle.members.proofs.Filling.{fills-as}
 use Rattle.writers.specs.Posts.{Lodges, Lodged, Embeds, Lowered}
 use Rattle.writers.proofs.Meeting.{meets-refused, meets-given}
-use Rattle.writers.proofs.Embedding.{leaves-out, safe-noted}
 
 -- the same under another name
 pub fills-same : {known known' : Schema → Type 0} {R : Round} {n : ℕ} {p : Progress} {w : Bytes} {size : ℕ} {f g : Schema → Bytes → M Bytes} {r : Wrote} {w' : Bytes}
     → ((S : Schema) → known' S → known S) → ((S : Schema) → known' S → (buf : Bytes) (s : State) → g S buf s ≡ f S buf s) → Fills known R n p w size f r w' → Fills known' R n p w size g r w'
-fills-same {R = R} {n = n} {size = size} {r = r} {w' = w'} k e h = record {
-  grew = h .grew;
-  says = λ S i s σ buf l rep. rw (e S i buf s) (h .says S (k S i) s σ buf l rep);
-}
-
-module _ (known : Schema → Type 0) (R : Round) (n : ℕ) (p : Progress) (w : Bytes) (safe : Safe R n p) where
-  -- nothing was done
-  pub fills-stay : (size : ℕ) → Fills known R n p w size (λ S buf. ret buf) (Done p) w
-  unfolding ret
-  fills-stay size = record {
-    grew = (safe, record { more = omega arith; paid = omega arith; top = omega arith; met = omega arith });
-    says = λ S i s σ buf l rep. (rep, l);
-  }
-
-  -- a remark was met
-  pub fills-noted : (F : Bytes) (d : Def) (m : coded.Member) (kind detail : ℕ) (q : Progress) (w' : Bytes) → Open p → Notes R n p w (remarkOn d m kind detail) q w'
-      → Fills known R n p w (d .size) (λ S buf. leaves (defOf F d) (memberOf m) kind detail buf) (Done q) w'
-  fills-noted F d m kind detail q w' more h = record {
-    grew = (
-      safe-noted R n p w (remarkOn d m kind detail) q w' safe more h,
-      record { more = omega (arith, h .end); paid = omega (arith, h .end, h .charge); top = omega (arith, h .top); met = omega (arith, h .seen, h .charge) },
-    );
-    says = λ S i s σ buf l rep. rw (leaves-out F d m kind detail buf s) (h .says S s (σ ++ buf) rep, l);
-  }
+fills-same {known} {known'} {R} {n} {p} {w} {size} {f} {g} {r} {w'} k e h = fills-as R n p w known' known size g f r w' (λ S i. (k S i, e S i)) h
 
 -- a run that is kept stands on top of what was there
 pub run-higher : (known : Schema → Type 0) (R : Round) (n : ℕ) (p : Progress) (w : Bytes) (notes : ℕ) (f : Schema → M (Option Run)) (r : Ran) (w' : Bytes) → Yields known R n p w notes f r w'

@@ -31,14 +31,16 @@ use Rattle.members.specs.declared.Ran.{Ran}
 use Rattle.members.specs.declared.Ran.the-variants as Rn
 use Rattle.members.specs.Names.{defOf, memberOf}
 use Rattle.members.specs.Posts.{Fills, Yields, Buffer, remarkOn, anySchema}
+use Rattle.members.proofs.Loops.{length-rowsFrom}
+use Rattle.members.proofs.Filling.{stays, said}
 use Rattle.writers.specs.declared.choose.Info.{Info}
 use Rattle.writers.specs.declared.choose.Info.the-variants as I
 use Rattle.writers.specs.Sources.{infoIs, itemCount, byPointer, least}
 use Rattle.writers.specs.Posts.{Of, deeper, Lodges, Embeds}
 use Rattle.writers.proofs.Meeting.{if-true, if-false, opt-none, opt-some}
 use Rattle.writers.proofs.Embedding.{fit-within, need-fits, need-leaves}
-use Rattle.writers.proofs.Children.{length-rows, take-least, rows-none, rows-some, children-items}
-use Rattle.writers.proofs.Filled.{fills-same, fills-stay, fills-noted, withRun, run-refused, run-dropped, run-lodged, run-embedded, lodge-room, embed-room}
+use Rattle.writers.proofs.Children.{take-least, rows-none, rows-some, children-items}
+use Rattle.writers.proofs.Filled.{fills-same, withRun, run-refused, run-dropped, run-lodged, run-embedded, lodge-room, embed-room}
 
 module _ (T F : Bytes) (R : Round) (left : ℕ) (p : Progress) (w : Bytes) (d : Def) (m : coded.Member) (safe : Safe R (length w) p) (more : Open p) (buffer : Buffer R p (d .size)) where
   -- ---- an array by pointer, and inline
@@ -79,15 +81,15 @@ module _ (T F : Bytes) (R : Round) (left : ℕ) (p : Progress) (w : Bytes) (d : 
       unfolding laidRun
       some-is S buf s t z =
           fits-is S buf s t ∙ if-false (isEmpty (rowsFrom first count)) (ret buf) _ s (rows-some first count z)
-          ∙ ap (λ (k : ℕ). withRun (items S) buf (λ y. bind (addItem (y .block) (y .bytes)) λ q. ret (putCounted buf (m .offset) q k)) s) (length-rows first count)
+          ∙ ap (λ (k : ℕ). withRun (items S) buf (λ y. bind (addItem (y .block) (y .bytes)) λ q. ret (putCounted buf (m .offset) q k)) s) (length-rowsFrom first count)
 
       -- it does not fit
       pub laid-wide : (q : Progress) (w' : Bytes) → not fit ≡ true → Notes R (length w) p w (remarkOn d m 1 (d .size)) q w' → Fills (Of F) R (length w) p w (d .size) byPointer′ (Done q) w'
-      laid-wide q w' t h = fills-same (λ S o. o) (λ S o buf s. wide-is S buf s t) (fills-noted (Of F) R (length w) p w safe F d m 1 (d .size) q w' more h)
+      laid-wide q w' t h = fills-same (λ S o. o) (λ S o buf s. wide-is S buf s t) (said R (length w) p w (Of F) (d .size) F d m 1 (d .size) q w' safe more h)
 
       -- it has no items
       pub laid-empty : not fit ≡ false → count ≡ 0 → Fills (Of F) R (length w) p w (d .size) byPointer′ (Done p) w
-      laid-empty t z = fills-same (λ S o. o) (λ S o buf s. empty-is S buf s t z) (fills-stay (Of F) R (length w) p w safe (d .size))
+      laid-empty t z = fills-same (λ S o. o) (λ S o buf s. empty-is S buf s t z) (stays R (length w) p w (Of F) (d .size) safe)
 
       module _ (t : not fit ≡ false) (z : count ≡ 0 → ⊥) (r : Ran) (w' : Bytes) (h : Yields (Of F) R (length w) p w 1 items r w') where
         -- its run was refused
@@ -152,7 +154,7 @@ module _ (T F : Bytes) (R : Round) (left : ℕ) (p : Progress) (w : Bytes) (d : 
 
     -- remark 5
     pub array-none : (q : Progress) (w' : Bytes) → info ≡ I.Missing → Notes R (length w) p w (remarkOn d m 5 0) q w' → Fills (Of F) R (length w) p w (d .size) array (Done q) w'
-    array-none q w' i h = fills-same (λ S o. o) (λ S o buf s. none-is S buf s i) (fills-noted (Of F) R (length w) p w safe F d m 5 0 q w' more h)
+    array-none q w' i h = fills-same (λ S o. o) (λ S o buf s. none-is S buf s i) (said R (length w) p w (Of F) (d .size) F d m 5 0 q w' safe more h)
 
     module _ (x : coded.Member) (i : info ≡ I.At x) (y : Row) (read : y ≡ valueRow T (valueIs v)) (is : Bool) (judged : (S : Schema) (R : Round) → is ≡ isArrayValue (envOf T S R) y) where
       judge : (S : Schema) → isArrayValue (envOf T S R) (valueRow T (valueIs v)) ≡ is

@@ -19,7 +19,6 @@ use Rattle.layout.specs.State.{State, Env, M, Out, done, stop, after, bind, ret
 use Rattle.layout.specs.Members.{leaves, need}
 use Rattle.layout.specs.Runs.{Writer}
 use Rattle.layout.specs.Write.{inlineMember}
-use Rattle.layout.proofs.Named.{named-winning}
 use Rattle.area.specs.declared.Round.{Round}
 use Rattle.area.specs.declared.Progress.{Progress}
 use Rattle.area.specs.Area.{stackAt, envOf, withTop}
@@ -34,14 +33,11 @@ use Rattle.members.specs.declared.Wrote.the-variants.{Done, Refused}
 use Rattle.members.specs.Names.{defOf, memberOf, lookedIs}
 use Rattle.members.specs.Posts.{remarkOn, Buffer, Went, Fills, wroteIs}
 use Rattle.writers.specs.Posts.{Of, Named, deeper, Started, Pushed, Pushes}
-use Rattle.members.proofs.Filling.{def-name, def-size, need-yes, fills-as, said, too-long}
-use Rattle.writers.proofs.Passing.{refused-on}
+use Rattle.members.proofs.Filling.{def-size, need-yes, fills-as, said, too-long}
+use Rattle.writers.proofs.Meeting.{refused-on}
+use Rattle.writers.proofs.Choosing.{looked-name}
 
--- a definition that was looked up has the name
-pub looked-name : (F : Bytes) (S : Schema) (ref : ℕ) (i : Def) → winning S .struct ref ≡ some (defOf F i) → i .name ≡ ref
-looked-name F S ref i e = sym (def-name F i) ∙ named-winning S .structs ref (defOf F i) e
-
--- .. so its name stands for it
+-- the name of a definition that was looked up stands for it
 pub looked-named : (F : Bytes) (S : Schema) (ref : ℕ) (i : Def) → schemaOf F ≡ ok S → winning S .struct ref ≡ some (defOf F i) → Named F i S
 looked-named F S ref i k e = record { of = k; winner = subst (λ (x : ℕ). winning S .struct x ≡ some (defOf F i)) (sym (looked-name F S ref i e)) e }
 

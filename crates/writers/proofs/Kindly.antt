@@ -4,7 +4,7 @@ use mathlib.Core.Bool.{Bool, true, false, cond, _||_}
 use mathlib.Core.List.{List}
 use mathlib.Core.Option.{Option, none, some}
 use mathlib.Core.Logic.{_⊎_, inl, inr}
-use Prim.Native.Nat.{ℕ, _-_, _≤_}
+use Prim.Native.Nat.{ℕ, _-_}
 use native.Mathlib.Omega.{arith}
 use lib.Dec.{leb, eqb}
 use borrow.Author.Tests.{eq-eqb, ne-eqb}
@@ -32,11 +32,11 @@ use Rattle.members.specs.declared.Looked.{Looked}
 use Rattle.members.specs.declared.Looked.the-variants as L
 use Rattle.members.specs.declared.Wrote.{Wrote}
 use Rattle.members.specs.declared.Ran.{Ran}
-use Rattle.members.specs.declared.Ran.the-variants as Rn
 use Rattle.members.specs.Names.{defOf, memberOf, lookedIs}
-use Rattle.members.specs.Posts.{anySchema, Grew, Fills, Yields, plainMember, plainRun}
+use Rattle.members.specs.Posts.{anySchema, Fills, Yields, plainMember, plainRun}
 use Rattle.writers.specs.Posts.{Of, Named, deeper, structRun}
 use Rattle.members.proofs.Filling.{def-name, fills-as}
+use Rattle.members.proofs.Elements.{yields-as}
 use Rattle.writers.proofs.Inlines.{looked-at, looked-none, looked-named}
 
 -- a kind that leads to no structure
@@ -251,17 +251,6 @@ module _ (R : Round) (n : ℕ) (p : Progress) (w : Bytes) (T F : Bytes) (left : 
   member-as-plain r w' a b c h =
       of-kind (kindOf (m .kind)) (λ S buf. plainMember (envOf T S R) (defOf F d) (memberOf m) (kindOf (m .kind)) (valueIs v) buf) r w' refl
       (λ S buf. member-plain (envOf T S R) (deeper T R left S) (defOf F d) (memberOf m) (kindOf (m .kind)) (valueIs v) buf (kind-plain (m .kind) a b c)) h
-
--- another run that does the same, where less is known of the schema, and with no more remarks
-grew-more : (R : Round) (n : ℕ) (p : Progress) (few notes : ℕ) (r : Ran) → few ≤ notes → Grew R n p few r → Grew R n p notes r
-grew-more R n p few notes (Rn.Kept b q) h g = g
-grew-more R n p few notes (Rn.Dropped q) h g = (g .0, record { more = g .1 .more; paid = g .1 .paid; top = g .1 .top; met = omega (arith, g .1 .met) })
-grew-more R n p few notes (Rn.Refused k q) h g = g
-
-pub yields-as : (R : Round) (n : ℕ) (p : Progress) (w : Bytes) (known less : Schema → Type 0) (few notes : ℕ) (f g : Schema → M (Option Run)) (r : Ran) (w' : Bytes) → few ≤ notes
-    → ((S : Schema) → known S → less S × (f S ≡ g S)) → Yields less R n p w few g r w' → Yields known R n p w notes f r w'
-yields-as R n p w known less few notes f g r w' l e a =
-    record { grew = grew-more R n p few notes r l (a .grew); says = λ S k s σ q. rw (e S k .1) (a .says S (e S k .0) s σ q) }
 
 module _ (R : Round) (n : ℕ) (p : Progress) (w : Bytes) (T F : Bytes) (left : ℕ) (d : Def) (m x : coded.Member) (first count : ℕ) where
   abbrev asRun : Schema → M (Option Run)

@@ -10,7 +10,6 @@ pub mod Children
 pub mod Filled
 pub mod Fillings
 pub mod Pairing
-pub mod Passing
 pub mod Inlines
 pub mod Pointers
 pub mod Kindly

@@ -1,51 +1,28 @@
 -- A run on top of the stack is filed, and its pointer stands in the structure below it. Assumes nothing.
-use mathlib.Core.Path.{_≡_, sym, subst, _∙_}
+use mathlib.Core.Path.{_≡_, sym, subst}
 use mathlib.Core.List.{_++_}
 use Prim.Native.Nat.{ℕ, _+_, _-_, _≤_}
 use native.Mathlib.Omega.{arith}
-use lib.ListN.{length, length-append}
-use Rattle.numbers.specs.Words.{Bytes, bytesOf, over}
-use Rattle.numbers.proofs.Bytes.{length-bytes}
+use lib.ListN.{length}
+use Rattle.numbers.specs.Words.{Bytes}
 use Rattle.schema.specs.Defs.{Schema}
 use Rattle.layout.specs.State.{State, ret, addItem}
-use Rattle.layout.specs.Members.{putPointer, putCounted}
+use Rattle.layout.specs.Members.{putCounted}
 use Rattle.area.specs.declared.Round.{Round}
 use Rattle.area.specs.declared.Progress.{Progress}
 use Rattle.area.specs.declared.Laid.{Laid}
 use Rattle.area.specs.declared.Laid.the-variants as A
 use Rattle.area.specs.Area.{itemsAt, stackAt, Rep}
 use Rattle.area.specs.Posts.{Safe, Larger, Lays, laidIs, gives, refuses, Meets}
-use Rattle.area.proofs.Over.{length-over}
-use Rattle.area.proofs.Reps.{rep-put}
 use Rattle.members.specs.declared.Wrote.the-variants.{Done, Refused}
 use Rattle.members.specs.Posts.{wroteIs}
+use Rattle.members.proofs.Slotting.{length-counted, rep-counted}
 use Rattle.writers.specs.Posts.{Lodges}
 use Rattle.writers.proofs.Meeting.{meets-refused, meets-given}
 
 -- the stack's top lies in the area
 pub top-within : (R : Round) (n : ℕ) (p : Progress) → Safe R n p → p .top ≤ n
 top-within R n p safe = omega (arith, safe .stack, safe .within, safe .room)
-
--- the count, twice in two bytes
-length-count : (n : ℕ) → length (bytesOf 2 n ++ bytesOf 2 n) ≡ 4
-length-count n = length-append (bytesOf 2 n) (bytesOf 2 n) ∙ omega (arith, length-bytes 2 n)
-
--- a pointer with its count has 12 bytes
-pub length-counted : (buf : Bytes) (off x n : ℕ) → off + 12 ≤ length buf → length (putCounted buf off x n) ≡ length buf
-unfolding putCounted putPointer
-length-counted buf off x n h =
-    let l : length (over buf off (bytesOf 4 x)) ≡ length buf = length-over buf off (bytesOf 4 x) (omega (arith, length-bytes 4 x)) in
-    length-over (over buf off (bytesOf 4 x)) (off + 8) (bytesOf 2 n ++ bytesOf 2 n) (omega (arith, length-count n)) ∙ l
-
--- .. put into the buffer that is the stack's top
-pub rep-counted : (S : Schema) (R : Round) (n : ℕ) {s : State} {p : Progress} {w : Bytes} (σ buf : Bytes) (off at x count : ℕ) → Rep S R n s (σ ++ buf) p w → p .top ≤ n
-    → off + 12 ≤ length buf → stackAt R + length σ + off ≡ at → Rep S R n s (σ ++ putCounted buf off x count) p (putCounted w at x count)
-unfolding putCounted putPointer
-rep-counted S R n σ buf off at x count r h l e =
-    let a = bytesOf 4 x in
-    let k : length (over buf off a) ≡ length buf = length-over buf off a (omega (arith, length-bytes 4 x)) in
-    rep-put S R n σ (over buf off a) (bytesOf 2 count ++ bytesOf 2 count) (off + 8) (at + 8)
-    (rep-put S R n σ buf a off at r h (omega (arith, length-bytes 4 x)) e) h (omega (arith, length-count count)) (omega arith)
 
 -- the numbers stay in order when an item is laid
 pub safe-larger : (R : Round) (n : ℕ) (p q : Progress) (len : ℕ) → Safe R n p → p .end + (16 + len) ≤ itemsAt R + p .charge → stackAt R + len ≤ p .top → Larger p len (p .top - len) q → Safe R n q

@@ -29,10 +29,11 @@ unfolding optM
 opt-some o f g x s e = rw e refl
 
 module _ (S : Schema) (R : Round) (n : ℕ) {A B X Y : Type 0} (stack : A → Bytes) (fits : A → X → Type 0) (stack' : B → Bytes) (fits' : B → Y → Type 0) where
-  refused-out : (k : A → M B) (o : Out A) (e : ℕ) (t : Progress) (w : Bytes) → Meets S R n stack fits o (refuses e t) w → Meets S R n stack' fits' (after o k) (refuses e t) w
+  -- what follows a refusal is not done
+  pub refused-on : (o : Out A) (k : A → M B) (e : ℕ) (t : Progress) (w : Bytes) → Meets S R n stack fits o (refuses e t) w → Meets S R n stack' fits' (after o k) (refuses e t) w
   unfolding after
-  refused-out k (done a s) e t w h = absurd h
-  refused-out k (stop m es) e t w h = h
+  refused-on (done a s) k e t w h = absurd h
+  refused-on (stop m es) k e t w h = h
 
   given-out : (k : A → M B) (o : Out A) (x : X) (t : Progress) (w : Bytes) (r : Ans Y) (w' : Bytes) → Meets S R n stack fits o (gives x t) w
       → ((a : A) (s : State) → Rep S R n s (stack a) t w → fits a x → Meets S R n stack' fits' (k a s) r w') → Meets S R n stack' fits' (after o k) r w'
@@ -44,7 +45,7 @@ module _ (S : Schema) (R : Round) (n : ℕ) {A B X Y : Type 0} (stack : A → By
   pub meets-refused : (m : M A) (k : A → M B) (s : State) (e : ℕ) (t : Progress) (w : Bytes) → Meets S R n stack fits (m s) (refuses e t) w
       → Meets S R n stack' fits' (bind m k s) (refuses e t) w
   unfolding bind
-  meets-refused m k s e t w h = refused-out k (m s) e t w h
+  meets-refused m k s e t w h = refused-on (m s) k e t w h
 
   -- what follows an answer
   pub meets-given : (m : M A) (k : A → M B) (s : State) (x : X) (t : Progress) (w : Bytes) (r : Ans Y) (w' : Bytes) → Meets S R n stack fits (m s) (gives x t) w

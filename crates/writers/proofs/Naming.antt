@@ -1,16 +1,15 @@
 -- The values of a structure by name, and a pair's names. Assumes nothing.
 use mathlib.Core.Path.{_≡_, refl, sym, ap, _∙_}
-use mathlib.Core.Bool.{Bool, true, false, cond}
+use mathlib.Core.Bool.{Bool, true, false}
 use mathlib.Core.List.{List, [], _∷_}
-use mathlib.Core.Option.{Option, none, some}
+use mathlib.Core.Option.{none, some}
 use Prim.Native.Nat.{ℕ, zero, suc, _+_, _-_, _≤_, _<_}
 use native.Mathlib.Omega.{arith}
 use borrow.Author.Tests.{eq-eqb, ne-eqb, eqb-true, eqb-false, ltb-true, ltb-false}
 use lib.Dec.{eqb, ltb}
 use lib.ListN.{length, drop}
-use Rattle.value.specs.Rows.{Value, Fields, fieldNamed}
+use Rattle.value.specs.Rows.{Fields, fieldNamed}
 use Rattle.value.specs.Answer.{foundIs}
-use Rattle.value.specs.declared.Found.{Found}
 use Rattle.value.specs.declared.Found.the-variants.{At, Missing}
 use Rattle.schema.specs.Defs.{Member, StructDef}
 use Rattle.layout.specs.Members.{nth}

@@ -1,10 +1,9 @@
 -- Remark 9 of an element. Assumes nothing.
 use mathlib.Core.Path.{_≡_, refl, sym, _∙_}
-use mathlib.Core.Bool.{Bool, true, false, not, _||_}
+use mathlib.Core.Bool.{Bool, true, false}
 use Prim.Native.Nat.{ℕ}
 use native.Mathlib.Omega.{arith}
-use borrow.Author.Tests.{eq-eqb, ne-eqb}
-use lib.Dec.{eqb}
+use borrow.Author.Tests.{ne-eqb}
 use Rattle.numbers.specs.Words.{Bytes}
 use Rattle.schema.specs.declared.members.Member as coded
 use Rattle.value.specs.Rows.{Struct, Null}

@@ -6,24 +6,14 @@ use Prim.Native.Nat.{ℕ, zero, suc, _+_, _*_, _≤_, _<_}
 use native.Mathlib.Omega.{arith}
 use lib.ListN.{length}
 use Rattle.numbers.specs.Words.{Bytes}
-use Rattle.schema.specs.Psch.{memberAt, membersAt}
+use Rattle.schema.specs.Psch.{memberAt}
 use Rattle.schema.specs.Answers.{memberIs}
 use Rattle.schema.specs.declared.members.Member as coded
 use Rattle.schema.proofs.Places.{members-length}
 use Rattle.layout.specs.Members.{nth}
 use Rattle.members.specs.declared.Def.{Def}
 use Rattle.members.specs.Names.{defOf, memberOf}
-
--- one of n members
-pub nth-members : (F : Bytes) (n at k : ℕ) → k < n → nth (membersAt F n at) k ≡ some (memberAt F (at + 12 * k))
-unfolding membersAt nth
-nth-members F zero at k h = absurd (omega arith)
-nth-members F (suc n) at zero h =
-    let e : at ≡ at + 12 * 0 = omega arith in
-    ap (λ (x : ℕ). some (memberAt F x)) e
-nth-members F (suc n) at (suc k) h =
-    let e : at + 12 + 12 * k ≡ at + 12 * suc k = omega arith in
-    nth-members F n (at + 12) k (omega arith) ∙ ap (λ (x : ℕ). some (memberAt F x)) e
+use Rattle.members.proofs.Looking.{members-nth}
 
 -- a list has nothing behind its end
 pub nth-none : {A : Type 0} (l : List A) (k : ℕ) → length l ≤ k → nth l k ≡ none
@@ -41,7 +31,7 @@ count-members F d = members-length F (d .count) (d .place + 12)
 pub nth-read : (F : Bytes) (d : Def) (k : ℕ) (m : coded.Member) → m ≡ memberIs (memberAt F (d .place + 12 + 12 * k)) → k < d .count
     → nth (defOf F d .members) k ≡ some (memberOf m)
 unfolding defOf
-nth-read F d k m e h = nth-members F (d .count) (d .place + 12) k h ∙ ap (λ (x : coded.Member). some (memberOf x)) (sym e)
+nth-read F d k m e h = members-nth F (d .count) (d .place + 12) k h ∙ ap (λ (x : coded.Member). some (memberOf x)) (sym e)
 
 -- behind the last there is none
 pub nth-past : (F : Bytes) (d : Def) (k : ℕ) → d .count ≤ k → nth (defOf F d .members) k ≡ none

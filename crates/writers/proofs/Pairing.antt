@@ -36,14 +36,16 @@ use Rattle.members.specs.declared.Ran.{Ran}
 use Rattle.members.specs.declared.Ran.the-variants as Rn
 use Rattle.members.specs.Names.{defOf, memberOf, lookedIs}
 use Rattle.members.specs.Posts.{Fills, Yields, Buffer, remarkOn, anySchema}
+use Rattle.members.proofs.Filling.{stays, said}
 use Rattle.writers.specs.Sources.{pairCount}
 use Rattle.writers.specs.Posts.{Of, Named, deeper, Lodges, structRun}
 use Rattle.writers.proofs.Meeting.{if-true, if-false, opt-none, opt-some}
 use Rattle.writers.proofs.Choosing.{looked-name}
+use Rattle.writers.proofs.Inlines.{looked-named}
 use Rattle.writers.proofs.Lodging.{top-within}
 use Rattle.writers.proofs.Embedding.{fit-within, need-fits, need-leaves}
 use Rattle.writers.proofs.Children.{length-pairs, pairs-empty, pairs-some, children-pairs, map-other, map-or-null}
-use Rattle.writers.proofs.Filled.{fills-same, fills-stay, fills-noted, withRun, run-refused, run-dropped, run-lodged, lodge-room}
+use Rattle.writers.proofs.Filled.{fills-same, withRun, run-refused, run-dropped, run-lodged, lodge-room}
 
 -- what an empty map holds
 abbrev pub mark : ℕ
@@ -83,11 +85,7 @@ module _ (T F : Bytes) (R : Round) (left : ℕ) (p : Progress) (w : Bytes) (d : 
       name-is S o = looked-name F S h i (stands S o)
 
       known : (S : Schema) → Of F S → Named F i S
-      known S o = record { of = o; winner = ap (λ (k : ℕ). winning S .struct k) (name-is S o) ∙ stands S o }
-
-      size-is : defOf F i .size ≡ i .size
-      unfolding defOf
-      size-is = refl
+      known S o = looked-named F S h i o (stands S o)
 
       there-is : (S : Schema) (buf : Bytes) (s : State) → Of F S → pairs first n S buf s ≡ withRun (run′ i S) buf (filed S buf) s
       unfolding mapOf laidRun
@@ -125,7 +123,7 @@ module _ (T F : Bytes) (R : Round) (left : ℕ) (p : Progress) (w : Bytes) (d : 
 
     -- remark 7
     pub pairs-missing : (q : Progress) (w' : Bytes) → found ≡ L.Missing → Notes R (length w) p w (remarkOn d m 7 h) q w' → Fills (Of F) R (length w) p w (d .size) (pairs first n) (Done q) w'
-    pairs-missing q w' e x = fills-same (λ S o. o) (λ S o buf s. missing-is S buf s o e) (fills-noted (Of F) R (length w) p w safe F d m 7 h q w' more x)
+    pairs-missing q w' e x = fills-same (λ S o. o) (λ S o buf s. missing-is S buf s o e) (said R (length w) p w (Of F) (d .size) F d m 7 h q w' safe more x)
 
   -- ---- a map
   module _ (v : Found) where
@@ -138,7 +136,7 @@ module _ (T F : Bytes) (R : Round) (left : ℕ) (p : Progress) (w : Bytes) (d : 
 
     -- remark 6
     pub map-subtype : (q : Progress) (w' : Bytes) → (m .subtype ≡ 1 → ⊥) → Notes R (length w) p w (remarkOn d m 6 (m .subtype)) q w' → Fills (Of F) R (length w) p w (d .size) map (Done q) w'
-    map-subtype q w' e x = fills-same (λ S o. o) (λ S o buf s. subtype-is S buf s e) (fills-noted (Of F) R (length w) p w safe F d m 6 (m .subtype) q w' more x)
+    map-subtype q w' e x = fills-same (λ S o. o) (λ S o buf s. subtype-is S buf s e) (said R (length w) p w (Of F) (d .size) F d m 6 (m .subtype) q w' safe more x)
 
     module _ (one : m .subtype ≡ 1) (fit : Bool) (e : fit ≡ leb (m .offset + 24) (d .size)) where
       -- a map that fits
@@ -158,7 +156,7 @@ module _ (T F : Bytes) (R : Round) (left : ℕ) (p : Progress) (w : Bytes) (d : 
       pub map-wide : (q : Progress) (w' : Bytes) → not fit ≡ true → Notes R (length w) p w (remarkOn d m 1 (d .size)) q w' → Fills (Of F) R (length w) p w (d .size) map (Done q) w'
       map-wide q w' t x =
           fills-same (λ S o. o) (λ S o buf s. needs-is S buf s ∙ need-leaves F d m 24 buf (body S buf (eqb kind 20 || eqb kind 0)) s (sym e ∙ not-true fit t))
-          (fills-noted (Of F) R (length w) p w safe F d m 1 (d .size) q w' more x)
+          (said R (length w) p w (Of F) (d .size) F d m 1 (d .size) q w' safe more x)
 
       -- there is room for the mark
       pub mark-room : (j : ℕ) → not fit ≡ false → stackAt R + d .size ≤ p .top → j ≡ length w → p .top - d .size + m .offset + 4 ≤ j
@@ -236,4 +234,4 @@ module _ (T F : Bytes) (R : Round) (left : ℕ) (p : Progress) (w : Bytes) (d : 
           map-empty l z =
               map-pairs (Done p) w' l
               (fills-same (λ S o. o) (λ S o buf s. none-is S buf s z)
-              (fills-stay (Of F) R (length w') p w' (subst (λ (k : ℕ). Safe R k p) (sym l) safe) (d .size)))
+              (stays R (length w') p w' (Of F) (d .size) (subst (λ (k : ℕ). Safe R k p) (sym l) safe)))

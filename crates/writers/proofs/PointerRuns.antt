@@ -1,25 +1,25 @@
 -- A run of structures by pointer, element by element: 8 bytes each. Assumes nothing.
-use mathlib.Core.Path.{_≡_, refl, sym, ap, subst, _∙_}
-use mathlib.Core.Bool.{Bool, true, false}
-use mathlib.Core.List.{List, [], _∷_, _++_}
+use mathlib.Core.Path.{_≡_, refl, sym, ap}
+use mathlib.Core.Bool.{true, false}
+use mathlib.Core.List.{_++_}
 use mathlib.Core.Option.{Option, none, some}
-use Prim.Native.Nat.{ℕ, zero, suc, _+_, _-_, _*_, _≤_, _<_}
+use Prim.Native.Nat.{ℕ, zero, _+_, _-_, _*_, _≤_, _<_}
 use native.Mathlib.Omega.{arith}
 use borrow.Author.Tests.{eq-eqb, ne-eqb}
 use lib.Dec.{eqb}
-use lib.ListN.{length, length-append, length-replicate}
+use lib.ListN.{length-replicate}
 use Rattle.numbers.specs.Words.{Bytes, bytesOf, over, zeros}
 use Rattle.numbers.specs.Result.{orValue}
 use Rattle.numbers.proofs.Bytes.{length-bytes}
-use Rattle.value.specs.Rows.{Row, row, rowsFrom, Struct}
+use Rattle.value.specs.Rows.{row, rowsFrom, Struct}
 use Rattle.schema.specs.Defs.{Schema}
 use Rattle.schema.specs.declared.members.Member as coded
-use Rattle.layout.specs.State.{Remark, State, M, Out, done, stop, after, bind, ret, ifM}
+use Rattle.layout.specs.State.{State, M, Out, done, stop, after, bind, ret, ifM}
 use Rattle.layout.specs.Members.{putPointer}
 use Rattle.layout.specs.Runs.{run, pointed, pointerElement}
 use Rattle.area.specs.declared.Round.{Round}
 use Rattle.area.specs.declared.Progress.{Progress}
-use Rattle.area.specs.Area.{Rep, stackAt, withTop, envOf}
+use Rattle.area.specs.Area.{Rep, withTop, envOf}
 use Rattle.area.specs.Posts.{Safe, Open, Grown, gives, refuses, Meets}
 use Rattle.area.proofs.Reps.{rep-push, rep-put}
 use Rattle.members.specs.declared.Def.{Def}

@@ -41,7 +41,7 @@ use Rattle.writers.specs.declared.write.Pointed.the-variants as P
 use Rattle.writers.specs.Sources.{Owned}
 use Rattle.writers.specs.Posts.{Of, Named, deeper, Started, Pushed, Pushes, pointedIs, Points}
 use Rattle.members.proofs.Filling.{def-size, went-noted, fills-as, stays, too-long}
-use Rattle.writers.proofs.Passing.{refused-on}
+use Rattle.writers.proofs.Meeting.{refused-on}
 use Rattle.writers.proofs.Inlines.{pushed-done}
 
 -- a structure by pointer without its definition, and with it

@@ -1,25 +1,25 @@
 -- A structure is started, and its members follow. Assumes nothing.
-use mathlib.Core.Path.{_≡_, refl, sym, ap, subst, _∙_}
-use mathlib.Core.Bool.{Bool, true, false, cond}
+use mathlib.Core.Path.{_≡_, refl, ap, subst, _∙_}
+use mathlib.Core.Bool.{true, false}
 use mathlib.Core.List.{List, [], _∷_, _++_}
-use mathlib.Core.Option.{Option, none, some}
-use Prim.Native.Nat.{ℕ, zero, suc, _+_, _-_, _*_, _≤_, _<_}
+use mathlib.Core.Option.{some}
+use Prim.Native.Nat.{ℕ, zero, suc, _+_, _-_, _≤_, _<_}
 use native.Mathlib.Omega.{arith}
 use borrow.Author.Tests.{ne-eqb}
 use lib.Dec.{leb, eqb}
-use lib.ListN.{length, drop}
+use lib.ListN.{length, drop, drop-of-length-le}
 use Rattle.numbers.specs.Words.{Bytes, zeros}
 use Rattle.value.specs.Rows.{Value, Fields, fieldNamed}
-use Rattle.schema.specs.Defs.{Schema, StructDef, Member, winning}
-use Rattle.layout.specs.State.{State, Env, M, Out, done, stop, after, bind, ret, fail, ifM, pay, withCharge, logStart, settle, onCore, useStructC, useStruct}
+use Rattle.schema.specs.Defs.{Schema, StructDef, Member}
+use Rattle.layout.specs.State.{State, Env, Out, done, stop, after, bind, ret, fail, ifM, pay, withCharge, logStart, settle, onCore, useStructC, useStruct}
 use Rattle.layout.specs.Kinds.{kindOf}
 use Rattle.layout.specs.Members.{nth}
 use Rattle.layout.specs.Runs.{Writer}
 use Rattle.layout.specs.Write.{ARRAYINFO, member, members, started, body, write}
 use Rattle.area.specs.declared.Round.{Round}
 use Rattle.area.specs.declared.Progress.{Progress}
-use Rattle.area.specs.Area.{Rep, withPaid, startedIn}
-use Rattle.area.specs.Posts.{Ans, gives, refuses, Meets, Stopped}
+use Rattle.area.specs.Area.{Rep, startedIn}
+use Rattle.area.specs.Posts.{gives, refuses, Meets}
 
 -- from the i-th on
 pub drop-nth : {A : Type 0} (l : List A) (i : ℕ) (x : A) → nth l i ≡ some x → drop i l ≡ x ∷ drop (i + 1) l
@@ -29,13 +29,6 @@ drop-nth (a ∷ l) zero x e = let q : a ≡ x = cc in ap (λ y. y ∷ l) q
 drop-nth (a ∷ l) (suc i) x e =
     let z : suc (i + 1) ≡ suc i + 1 = omega arith in
     drop-nth l i x e ∙ ap (λ (j : ℕ). x ∷ drop j (a ∷ l)) z
-
--- behind the last
-pub drop-all : {A : Type 0} (l : List A) (i : ℕ) → length l ≤ i → drop i l ≡ []
-drop-all [] zero h = refl
-drop-all [] (suc i) h = refl
-drop-all (a ∷ l) zero h = absurd (omega arith)
-drop-all (a ∷ l) (suc i) h = drop-all l i (omega arith)
 
 -- k members are written: what is left leads to the same end
 pub record Going (S : Schema) (R : Round) (n : ℕ) (E : Env) (w : Writer) (d : StructDef) (fs : Fields) (σ : Bytes) (s : State) (q : Progress) (work : Bytes) (k : ℕ) : Type 0 where
@@ -106,7 +99,7 @@ module _ (S : Schema) (R : Round) (n : ℕ) (E : Env) (w : Writer) (d : StructDe
       subst (λ o. Meets S R n (λ b. σ ++ b) (λ b (x : Unit {0}). length b ≡ d .size) o (gives tt q) work) e (g .rep, g .len)
     where
       ended : done (g .buf) (g .state) ≡ members E w d fs (drop k (d .members)) (g .buf) (g .state)
-      ended = rw (drop-all (d .members) k h) refl
+      ended = rw (drop-of-length-le (d .members) h) refl
 
 -- the charge is paid, the definition used, and the members follow
 pub started-is : (E : Env) (w : Writer) (d : StructDef) (fs : Fields) (s : State) → leb (s .charge + (16 + d .size)) (E .chargeCap) ≡ true
@@ -132,25 +125,3 @@ one-deeper E (suc k) d fs s h =
     let z : suc k - 1 ≡ k = omega arith in
     let q : eqb (suc k) 0 ≡ false = ne-eqb (suc k) 0 (λ e. omega arith) in
     rw (z, q) refl
-
--- the charge in the area's numbers
-pub rep-paid : (S : Schema) (R : Round) (n : ℕ) {s : State} {σ : Bytes} {p : Progress} {w : Bytes} (cost : ℕ) → Rep S R n s σ p w → Rep S R n (withCharge (s .charge + cost) s) σ (withPaid p (p .charge + cost)) w
-rep-paid S R n cost r =
-    record {
-      work = r .work;
-      blocks = r .blocks;
-      rows = r .rows;
-      structs = r .structs;
-      enums = r .enums;
-      end = r .end;
-      top = r .top;
-      charge = ap (λ (x : ℕ). x + cost) (r .charge);
-      seen = r .seen;
-      next = r .next;
-      tiny = r .tiny;
-      small = r .small;
-      structNames = r .structNames;
-      enumNames = r .enumNames;
-      known = r .known;
-      entries = r .entries;
-    }

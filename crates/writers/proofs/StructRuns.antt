@@ -1,25 +1,25 @@
 -- A run of structures, or a map's pairs, element by element. Assumes nothing.
-use mathlib.Core.Path.{_≡_, refl, sym, ap, subst, _∙_}
-use mathlib.Core.Bool.{Bool, true, false, cond, not, _||_}
-use mathlib.Core.List.{List, [], _∷_, _++_}
+use mathlib.Core.Path.{_≡_, refl, sym, ap}
+use mathlib.Core.Bool.{Bool, true, false, not, _||_}
+use mathlib.Core.List.{_++_}
 use mathlib.Core.Option.{Option, none, some}
 use Prim.Native.Nat.{ℕ, zero, suc, _+_, _-_, _*_, _≤_, _<_}
 use native.Mathlib.Omega.{arith}
 use lib.Dec.{eqb}
-use lib.ListN.{length, drop}
+use lib.ListN.{length}
 use Rattle.numbers.specs.Words.{Bytes}
-use Rattle.value.specs.Rows.{Row, row, rowsFrom, Fields, fieldsOf, Struct, Null}
+use Rattle.value.specs.Rows.{row, rowsFrom, Fields, fieldsOf, Struct, Null}
 use Rattle.schema.specs.Defs
-use Rattle.schema.specs.Defs.{Schema, StructDef}
+use Rattle.schema.specs.Defs.{Schema}
 use Rattle.schema.specs.declared.members.Member as coded
-use Rattle.layout.specs.State.{Remark, State, Env, M, Out, done, stop, after, bind, ret, ifM, remark, withRemark}
+use Rattle.layout.specs.State.{State, M, Out, done, stop, after, bind, ret, ifM, remark, withRemark}
 use Rattle.layout.specs.Members.{says}
-use Rattle.layout.specs.Runs.{Writer, structElement}
+use Rattle.layout.specs.Runs.{structElement}
 use Rattle.layout.specs.Write.{pairsOf, pairFields, pairElement}
 use Rattle.area.specs.declared.Round.{Round}
 use Rattle.area.specs.declared.Progress.{Progress}
 use Rattle.area.specs.Area.{Rep, envOf}
-use Rattle.area.specs.Posts.{Safe, Open, Grown, Notes, gives, refuses, Meets, Stopped}
+use Rattle.area.specs.Posts.{Safe, Open, Grown, gives, refuses, Meets}
 use Rattle.members.specs.declared.Def.{Def}
 use Rattle.members.specs.declared.Wrote.{Wrote}
 use Rattle.members.specs.declared.Wrote.the-variants.{Done, Refused}
@@ -27,17 +27,12 @@ use Rattle.members.specs.declared.Ran.{Ran}
 use Rattle.members.specs.declared.Ran.the-variants as Rn
 use Rattle.members.specs.Names.{defOf, memberOf}
 use Rattle.members.specs.Posts.{remarkOn, paidIs, Yields}
+use Rattle.members.proofs.Filling.{went-noted}
 use Rattle.members.proofs.Loops.{Ith, length-rowsFrom, row-ith, Paid, Made, Halts, Running, runCost, run-begin, run-turn, run-kept, run-stopped, run-too-dear}
 use Rattle.writers.specs.Posts.{Named, deeper, Started, Pushes, structRun, elementRow, elementFields, needsNote, Noted}
+use Rattle.writers.proofs.Children.{length-pairs}
 
 -- the pairs of a map, by number
-pub length-pairs : (r n : ℕ) → length (pairsOf (rowsFrom r (2 * n))) ≡ n
-unfolding pairsOf rowsFrom
-length-pairs r zero = refl
-length-pairs r (suc n) =
-    let e : 2 * suc n ≡ suc (suc (2 * n)) = omega arith in
-    rw e (ap suc (length-pairs (suc (suc r)) n))
-
 pub pair-ith : (r n i : ℕ) → i < n → Ith (r + 2 * i, r + 2 * i + 1) i (pairsOf (rowsFrom r (2 * n)))
 unfolding pairsOf rowsFrom
 pair-ith r zero i h = absurd (omega arith)
@@ -90,22 +85,7 @@ quiet R n q v d m kind pairs t v' h o x = go (needsNote kind pairs) refl
           top = y .top;
           charge = y .charge;
           seen = omega (arith, y .seen);
-          safe =
-            record {
-              small = h .small;
-              room = h .room;
-              from = omega (arith, y .end, h .from);
-              items = omega (arith, y .end, y .charge, h .items);
-              low = omega (arith, y .top, h .low);
-              stack = omega (arith, y .top, y .charge, h .stack);
-              within = omega (arith, y .charge, h .within);
-              blocks = omega (arith, y .blocks, h .blocks);
-              rows = y .rows;
-              structs = omega (arith, y .structs, h .structs);
-              enums = omega (arith, y .enums, h .enums);
-              next = y .next;
-              seen = omega (arith, y .seen, y .charge, o);
-            };
+          safe = went-noted R n q v (remarkOn d m 9 0) t v' h o y .0;
         }
     go false e =
         let (f, g) = x .none e in

@@ -1,76 +1,44 @@
 -- A structure from its start to its end: what `write_struct` has at each of its places. Assumes nothing.
-use mathlib.Core.Path.{_≡_, refl, sym, ap, subst, _∙_}
-use mathlib.Core.Bool.{Bool, true, false, cond}
-use mathlib.Core.List.{List, [], _∷_, _++_}
-use mathlib.Core.Option.{Option, none, some}
-use Prim.Native.Nat.{ℕ, zero, suc, _+_, _-_, _*_, _≤_, _<_}
+use mathlib.Core.Path.{_≡_, refl, sym, ap}
+use mathlib.Core.Bool.{true}
+use mathlib.Core.List.{_++_}
+use mathlib.Core.Option.{none, some}
+use Prim.Native.Nat.{ℕ, _+_, _-_, _*_, _≤_, _<_}
 use native.Mathlib.Omega.{arith}
 use borrow.Author.Tests.{leb-true, eq-eqb, ne-eqb}
-use lib.Dec.{leb, eqb}
-use lib.ListN.{length, drop, length-replicate}
+use lib.Dec.{leb}
+use lib.ListN.{length-replicate}
 use Rattle.numbers.specs.Words.{Bytes, zeros}
 use Rattle.numbers.specs.Result.{isSome}
 use Rattle.value.specs.Rows.{Value, Fields, fieldNamed}
 use Rattle.value.specs.Answer.{foundIs, valueIs}
 use Rattle.value.specs.declared.Found.{Found}
 use Rattle.schema.specs.Defs
-use Rattle.schema.specs.Defs.{Schema, StructDef, winning}
+use Rattle.schema.specs.Defs.{Schema, winning}
 use Rattle.schema.specs.declared.members.Member as coded
-use Rattle.layout.specs.State.{State, Env, M, Out, done, stop, withCharge}
+use Rattle.layout.specs.State.{State, withCharge}
 use Rattle.layout.specs.Kinds.{kindOf}
 use Rattle.layout.specs.Members.{nth}
-use Rattle.layout.specs.Runs.{Writer}
-use Rattle.layout.specs.Write.{ARRAYINFO, member, members, started, write}
+use Rattle.layout.specs.Write.{ARRAYINFO, member, members}
 use Rattle.area.specs.declared.Round.{Round}
 use Rattle.area.specs.declared.Progress.{Progress}
-use Rattle.area.specs.Area.{Rep, itemsAt, stackAt, withPaid, withTop, startedIn, envOf}
-use Rattle.area.specs.Posts.{Safe, Open, Grown, Marks, Ans, gives, refuses, Meets, Stopped}
+use Rattle.area.specs.Area.{Rep, stackAt, withPaid, withTop, startedIn, envOf}
+use Rattle.area.specs.Posts.{Safe, Open, Grown, Marks}
 use Rattle.area.proofs.Reps.{rep-push}
 use Rattle.members.specs.declared.Def.{Def}
-use Rattle.members.specs.declared.Wrote.{Wrote}
 use Rattle.members.specs.declared.Wrote.the-variants.{Done, Refused}
 use Rattle.members.specs.Names.{defOf, memberOf}
-use Rattle.members.specs.Posts.{paidIs, wroteIs, Fills}
-use Rattle.writers.specs.Posts.{Of, Named, deeper, Started, Pushes}
+use Rattle.members.specs.Posts.{paidIs, Fills}
+use Rattle.members.proofs.Slotting.{paid-yes, paid-no, rep-paid, safe-paid}
+use Rattle.writers.specs.Posts.{Of, Named, deeper, Pushes}
 use Rattle.writers.proofs.Nths.{count-members}
-use Rattle.writers.proofs.Starting.{Going, begin, skip, turn, turn-refused, finish, started-is, started-dear, too-deep, one-deeper, rep-paid}
+use Rattle.writers.proofs.Starting.{Going, begin, skip, turn, turn-refused, finish, started-is, started-dear, too-deep, one-deeper}
 
--- what paying gave
-pub paid-done : (R : Round) (p : Progress) (cost : ℕ) (s : Progress) → paidIs R p cost ≡ Done s → (leb (p .charge + cost) (R .cap) ≡ true) × (s ≡ withPaid p (p .charge + cost))
-paid-done R p cost s e = go (leb (p .charge + cost) (R .cap)) refl e
-  where
-    go : (b : Bool) → leb (p .charge + cost) (R .cap) ≡ b → cond b (Done (withPaid p (p .charge + cost))) (Refused 9 p) ≡ Done s → (leb (p .charge + cost) (R .cap) ≡ true) × (s ≡ withPaid p (p .charge + cost))
-    go true f g = (f, let z : withPaid p (p .charge + cost) ≡ s = cc in sym z)
-    go false f g = absurd (let z : _≡_ {A = ℕ} 0 1 = cc in omega arith)
-
-pub paid-refused : (R : Round) (p : Progress) (cost k : ℕ) (t : Progress) → paidIs R p cost ≡ Refused k t → (leb (p .charge + cost) (R .cap) ≡ false) × (k ≡ 9) × (t ≡ p)
-paid-refused R p cost k t e = go (leb (p .charge + cost) (R .cap)) refl e
-  where
-    go : (b : Bool) → leb (p .charge + cost) (R .cap) ≡ b → cond b (Done (withPaid p (p .charge + cost))) (Refused 9 p) ≡ Refused k t → (leb (p .charge + cost) (R .cap) ≡ false) × (k ≡ 9) × (t ≡ p)
-    go true f g = absurd (let z : _≡_ {A = ℕ} 0 1 = cc in omega arith)
-    go false f g = (f, (let z : _≡_ {A = ℕ} 9 k = cc in sym z), (let z : p ≡ t = cc in sym z))
-
--- the numbers are in order after it
+-- the numbers are in order after paying
 pub paid-safe : (R : Round) (n : ℕ) (p : Progress) (cost : ℕ) (s : Progress) → Safe R n p → paidIs R p cost ≡ Done s → Safe R n s
 paid-safe R n p cost s safe e =
-    let (f, g) = paid-done R p cost s e in
-    let h : p .charge + cost ≤ R .cap = leb-true _ _ f in
-    rw g
-    (record {
-      small = safe .small;
-      room = safe .room;
-      from = safe .from;
-      items = omega (arith, safe .items);
-      low = safe .low;
-      stack = omega (arith, safe .stack);
-      within = h;
-      blocks = safe .blocks;
-      rows = safe .rows;
-      structs = safe .structs;
-      enums = safe .enums;
-      next = safe .next;
-      seen = omega (arith, safe .seen);
-    })
+    let (f, g) = paid-yes R p cost (Done s) s (sym e) refl in
+    rw g (safe-paid R n p cost safe (leb-true _ _ f))
 
 -- from before a structure to before its first member
 pub record Entered (F : Bytes) (R : Round) (n : ℕ) (p : Progress) (w : Bytes) (d : Def) (q : Progress) (w' : Bytes) : Type 0 where
@@ -86,7 +54,7 @@ pub record Entered (F : Bytes) (R : Round) (n : ℕ) (p : Progress) (w : Bytes) 
 pub entered : (F : Bytes) (R : Round) (n : ℕ) (p : Progress) (w : Bytes) (d : Def) (s q : Progress) (w' : Bytes) → Safe R n p → paidIs R p (16 + d .size) ≡ Done s
     → Marks R n s w (λ S. isSome (winning S .struct (d .name))) (startedIn (d .name)) q w' → Entered F R n p w d (withTop q (q .top + d .size)) w'
 entered F R n p w d s q w' safe e m =
-    let (f, g) = paid-done R p (16 + d .size) s e in
+    let (f, g) = paid-yes R p (16 + d .size) (Done s) s (sym e) refl in
     go s g f m
   where
     go : (s : Progress) → s ≡ withPaid p (p .charge + (16 + d .size)) → leb (p .charge + (16 + d .size)) (R .cap) ≡ true
@@ -101,23 +69,23 @@ entered F R n p w d s q w' safe e m =
           charge = m .charge;
           seen = m .seen;
           safe =
-            record {
-              small = safe .small;
-              room = safe .room;
-              from = omega (arith, m .end, safe .from);
-              items = omega (arith, m .end, m .charge, safe .items);
-              low = omega (arith, m .top, safe .low);
-              stack = omega (arith, m .top, m .charge, safe .stack);
-              within = omega (arith, m .charge);
-              blocks = omega (arith, m .blocks, safe .blocks);
-              rows = omega (arith, m .rows, safe .rows);
-              structs = m .structs;
-              enums = m .enums;
-              next = omega (arith, m .next, m .seen, safe .next);
-              seen = omega (arith, m .seen, m .charge, safe .seen);
-            };
+              record {
+                small = safe .small;
+                room = safe .room;
+                from = omega (arith, m .end, safe .from);
+                items = omega (arith, m .end, m .charge, safe .items);
+                low = omega (arith, m .top, safe .low);
+                stack = omega (arith, m .top, m .charge, safe .stack);
+                within = omega (arith, m .charge);
+                blocks = omega (arith, m .blocks, safe .blocks);
+                rows = omega (arith, m .rows, safe .rows);
+                structs = m .structs;
+                enums = m .enums;
+                next = omega (arith, m .next, m .seen, safe .next);
+                seen = omega (arith, m .seen, m .charge, safe .seen);
+              };
           says = λ S k s σ r.
-            rep-push S R n (d .size) (m .says S (withCharge (s .charge + (16 + d .size)) s) σ (there S k) (rep-paid S R n (16 + d .size) r)) (omega (arith, m .top, safe .stack, safe .room, safe .within));
+              rep-push S R n (d .size) (m .says S (withCharge (s .charge + (16 + d .size)) s) σ (there S k) (rep-paid S R n s σ p w (16 + d .size) r)) (omega (arith, m .top, safe .stack, safe .room, safe .within));
         }
       where
         there : (S : Schema) → Named F d S → isSome (winning S .struct (d .name)) ≡ true
@@ -186,18 +154,18 @@ module _ (F T : Bytes) (R : Round) (n left : ℕ) (d : Def) (fs : Fields) (q₀ 
           few = omega arith;
           safe = x .grew .0;
           grown =
-            record {
-              more = omega (arith, on .grown .more, y .more);
-              paid = omega (arith, on .grown .paid, y .paid);
-              top = omega (arith, on .grown .top, y .top);
-              met = omega (arith, on .grown .met, y .met);
-            };
+              record {
+                more = omega (arith, on .grown .more, y .more);
+                paid = omega (arith, on .grown .paid, y .paid);
+                top = omega (arith, on .grown .top, y .top);
+                met = omega (arith, on .grown .met, y .met);
+              };
           spare = on .spare;
           low = on .low;
           says = λ S a s σ r.
-            let o = on .says S a s σ r in
-            turn S R n (envOf T S R) (deeper T R left S) (defOf F d) fs σ s q t w w' k (memberOf m) (valueIs v) e (ne-eqb (m .name) ARRAYINFO f) found o
-            (x .says S (a .of) (o .state) σ (o .buf) (o .len) (o .rep));
+              let o = on .says S a s σ r in
+              turn S R n (envOf T S R) (deeper T R left S) (defOf F d) fs σ s q t w w' k (memberOf m) (valueIs v) e (ne-eqb (m .name) ARRAYINFO f) found o
+              (x .says S (a .of) (o .state) σ (o .buf) (o .len) (o .rep));
         }
 
     module _ (p : Progress) (w₁ : Bytes) (up : ℕ) (safe : Safe R n p) (some-left : 0 < up) (less : up - 1 ≡ left) (into : Entered F R n p w₁ d q₀ w₀) where
@@ -210,10 +178,10 @@ module _ (F T : Bytes) (R : Round) (n left : ℕ) (d : Def) (fs : Fields) (q₀ 
           record {
             grew = x .grew;
             says = λ S b s σ r.
-              let o = on .says S b (startedIn (d .name) (withCharge (s .charge + (16 + d .size)) s)) σ (into .says S b s σ r) in
-              rw (one-deeper (envOf T S R) up (defOf F d) fs s some-left, less, started-is (envOf T S R) (deeper T R left S) (defOf F d) fs s (rw (← (r .charge)) (into .paid)))
-              (turn-refused S R n (envOf T S R) (deeper T R left S) (defOf F d) fs σ (startedIn (d .name) (withCharge (s .charge + (16 + d .size)) s)) q t w w' k a (memberOf m) (valueIs v) e
-              (ne-eqb (m .name) ARRAYINFO f) found o (x .says S (b .of) (o .state) σ (o .buf) (o .len) (o .rep)));
+                let o = on .says S b (startedIn (d .name) (withCharge (s .charge + (16 + d .size)) s)) σ (into .says S b s σ r) in
+                rw (one-deeper (envOf T S R) up (defOf F d) fs s some-left, less, started-is (envOf T S R) (deeper T R left S) (defOf F d) fs s (rw (← (r .charge)) (into .paid)))
+                (turn-refused S R n (envOf T S R) (deeper T R left S) (defOf F d) fs σ (startedIn (d .name) (withCharge (s .charge + (16 + d .size)) s)) q t w w' k a (memberOf m) (valueIs v) e
+                (ne-eqb (m .name) ARRAYINFO f) found o (x .says S (b .of) (o .state) σ (o .buf) (o .len) (o .rep)));
           }
 
   -- all are written
@@ -222,22 +190,23 @@ module _ (F T : Bytes) (R : Round) (n left : ℕ) (d : Def) (fs : Fields) (q₀ 
   unfolding defOf
   writing-done p w₁ up safe some-left less into h small =
       record {
-        grew =
-          (on .safe,
+        grew = (
+          on .safe,
           record {
             grown =
-              record {
-                more = omega (arith, into .end, on .grown .more);
-                paid = omega (arith, into .end, into .charge, on .grown .paid);
-                top = omega (arith, into .top, on .grown .top);
-                met = omega (arith, into .seen, into .charge, on .grown .met, on .few);
-              };
+                record {
+                  more = omega (arith, into .end, on .grown .more);
+                  paid = omega (arith, into .end, into .charge, on .grown .paid);
+                  top = omega (arith, into .top, on .grown .top);
+                  met = omega (arith, into .seen, into .charge, on .grown .met, on .few);
+                };
             spare = omega (arith, into .seen, into .charge, on .grown .met, on .few);
-          });
+          },
+        );
         says = λ S b s σ r.
-          let o = on .says S b (startedIn (d .name) (withCharge (s .charge + (16 + d .size)) s)) σ (into .says S b s σ r) in
-          rw (one-deeper (envOf T S R) up (defOf F d) fs s some-left, less, started-is (envOf T S R) (deeper T R left S) (defOf F d) fs s (rw (← (r .charge)) (into .paid)))
-          (finish S R n (envOf T S R) (deeper T R left S) (defOf F d) fs σ (startedIn (d .name) (withCharge (s .charge + (16 + d .size)) s)) q w k (rw (count-members F d) h) o);
+            let o = on .says S b (startedIn (d .name) (withCharge (s .charge + (16 + d .size)) s)) σ (into .says S b s σ r) in
+            rw (one-deeper (envOf T S R) up (defOf F d) fs s some-left, less, started-is (envOf T S R) (deeper T R left S) (defOf F d) fs s (rw (← (r .charge)) (into .paid)))
+            (finish S R n (envOf T S R) (deeper T R left S) (defOf F d) fs σ (startedIn (d .name) (withCharge (s .charge + (16 + d .size)) s)) q w k (rw (count-members F d) h) o);
       }
 
 -- 8
@@ -254,11 +223,11 @@ pub struct-dear : (F T : Bytes) (R : Round) (n : ℕ) (d : Def) (fs : Fields) (p
     → Pushes (Named F d) R n p w (d .size) (λ S. deeper T R up S (defOf F d) fs) (Refused k t) w
 unfolding defOf
 struct-dear F T R n d fs p w up k t safe some-left e =
-    let (f, g, h) = paid-refused R p (16 + d .size) k t e in
+    let (f, g, h) = paid-no R p (16 + d .size) (Refused k t) k t (sym e) refl in
     rw (g, h)
     (record {
       grew = safe;
       says = λ S b s σ r.
-        rw (one-deeper (envOf T S R) up (defOf F d) fs s some-left, started-dear (envOf T S R) (deeper T R (up - 1) S) (defOf F d) fs s (rw (← (r .charge)) f))
-        (refl, record { state = s; stack = σ; rep = r; met = refl });
+          rw (one-deeper (envOf T S R) up (defOf F d) fs s some-left, started-dear (envOf T S R) (deeper T R (up - 1) S) (defOf F d) fs s (rw (← (r .charge)) f))
+          (refl, record { state = s; stack = σ; rep = r; met = refl });
     })

@@ -1,6 +1,6 @@
 -- `members::runs::cell_run` meets its contract. Assumes nothing.
 use Prim.Native.Nat.{_+_, _-_, _≤_}
-use mathlib.Core.Path.{_≡_, refl, sym, _∙_}
+use mathlib.Core.Path.{_≡_, refl, _∙_}
 use native.Mathlib.Omega.{arith}
 use lib.ListN.{length}
 use borrow.Rule.Slice.PartMut.{mid-len}
@@ -9,7 +9,7 @@ use Rattle.value.specs.Rows.{rowsFrom}
 use Rattle.area.specs.declared.Round.{Round}
 use Rattle.members.specs.Cells.{cellElement}
 use Rattle.members.specs.Posts.{anySchema}
-use Rattle.members.proofs.Loops.{Ready, Paid, runCost, paid-done, paid-top, ready, length-rowsFrom, run-begin, run-kept, run-too-dear}
+use Rattle.members.proofs.Loops.{Ready, runCost, paid-done, paid-top, ready, length-rowsFrom, run-begin, run-kept, run-too-dear}
 use Rattle.members.proofs.CellRuns.{Cells, cells-room, cells-turn, cells-dropped, cells-stopped}
 use Rattle.members.proofs.runs.cell_run.Statement.{statement}
 use Rattle.members.proofs.runs.cell_run.Tie as tie

@@ -29,9 +29,10 @@ enum-run-spec =
     (λ c κs. search needs)
     (λ c κs.
     let s = c .before .before .before .before .before .before .before .before .before .before .before .before .before .before in
-    let a = s .args in
-    (rw (c .before .before .work2 .given) (went-marked (a .round) (length (a .work .now)) (a .p) (a .work .now) (λ S. isSome (winning S .enum (a .h))) (usedIn (a .h)) (a .work .now) (c .before .before .before .use-enum .result) (c .before .before .before .use-enum .last .0) 0 (s .pre) (c .before .before .before .use-enum .ensures) .0),
-    ((c .before .before .before .before .before .entries-at .ensures .0, c .before .before .before .before .before .before .entry-count .ensures .1, omega arith), omega arith)))
+    let a = s .args in (
+      rw (c .before .before .work2 .given) (went-marked (a .round) (length (a .work .now)) (a .p) (a .work .now) (λ S. isSome (winning S .enum (a .h))) (usedIn (a .h)) (a .work .now) (c .before .before .before .use-enum .result) (c .before .before .before .use-enum .last .0) 0 (s .pre) (c .before .before .before .use-enum .ensures) .0),
+      ((c .before .before .before .before .before .entries-at .ensures .0, c .before .before .before .before .before .before .entry-count .ensures .1, omega arith), omega arith),
+    ))
     (λ c. search needs)
     (λ c.
     let s = c .before .before .before .before .before .before .before .before .before .before in

@@ -1,6 +1,6 @@
 -- `members::runs::pointer_text_run` meets its contract. Assumes nothing.
 use Prim.Native.Nat.{ℕ, _+_, _-_, _*_, _≤_}
-use mathlib.Core.Path.{_≡_, refl, sym, ap, _∙_}
+use mathlib.Core.Path.{_≡_, refl, ap, _∙_}
 use native.Mathlib.Omega.{arith}
 use lib.ListN.{length}
 use borrow.Author.Needs.{needs}
@@ -10,7 +10,7 @@ use Rattle.layout.specs.Runs.{textElement}
 use Rattle.area.specs.Area.{envOf}
 use Rattle.members.specs.Posts.{anySchema, slotBlock}
 use Rattle.members.proofs.Choosing.{text-short}
-use Rattle.members.proofs.Loops.{Ready, Paid, runCost, paid-done, ready, length-rowsFrom, run-begin, run-kept, run-too-dear}
+use Rattle.members.proofs.Loops.{Ready, runCost, paid-done, ready, length-rowsFrom, run-begin, run-kept, run-too-dear}
 use Rattle.members.proofs.CellRuns.{Texts, texts-room, texts-turn, texts-stopped}
 use Rattle.members.proofs.runs.pointer_text_run.Statement.{statement}
 use Rattle.members.proofs.runs.pointer_text_run.Tie as tie

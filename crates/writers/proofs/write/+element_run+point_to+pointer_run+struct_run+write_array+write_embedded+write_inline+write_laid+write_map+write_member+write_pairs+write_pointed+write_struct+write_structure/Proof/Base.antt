@@ -49,8 +49,8 @@ use Rattle.area.proofs.stack.shift.Reads as shift-reads
 use Rattle.area.proofs.used.use_struct.Reads as use-struct-reads
 use Rattle.members.proofs.look_up.Reads as look-up-reads
 use Rattle.members.proofs.member.fits.Reads as fits-reads
-use Rattle.members.proofs.member.high_half.Reads as high-half-reads
-use Rattle.members.proofs.member.put_pointer.Reads as put-pointer-reads
+use Rattle.members.proofs.slots.high_half.Reads as high-half-reads
+use Rattle.members.proofs.slots.put_pointer.Reads as put-pointer-reads
 use Rattle.members.proofs.member.write_plain.Reads as write-plain-reads
 use Rattle.members.proofs.member.wrong.Reads as wrong-reads
 use Rattle.members.proofs.pay.Reads as pay-reads

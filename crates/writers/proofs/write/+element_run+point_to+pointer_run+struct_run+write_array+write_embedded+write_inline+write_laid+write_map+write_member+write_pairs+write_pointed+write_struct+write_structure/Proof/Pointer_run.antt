@@ -38,9 +38,14 @@ pointer-run-loop-again : (t : ℕ) → pointer-run-lts.Need-loop-again (pointer-
 pointer-run-loop-again t c =
     let a = c .before .before .before .before .before .before .before .before .before .before .before .before .before .args in
     let l = c .before .before .before .before .loop in
-    let v = l .inv in
-    (v .0, omega (arith, c .before .before .before .loop-test .taken), v .2, v .3, pointing-skip (a .schema .now) (a .sheet .now) (a .round) (length (a .work .now)) (a .left) (a .d) (a .m) (a .reference) (a .first) (a .n) (c .before .before .before .before .before .before .s .given .0 .0) (a .work .now)
-    (l .q) (l .work) (l .k) (v .3) (v .4) (c .before .before .before .loop-test .taken) (λ z. c .if1 .taken (ap (λ (x : Row). x .kind) (c .before .before .read-row .ensures) ∙ z)))
+    let v = l .inv in (
+      v .0,
+      omega (arith, c .before .before .before .loop-test .taken),
+      v .2,
+      v .3,
+      pointing-skip (a .schema .now) (a .sheet .now) (a .round) (length (a .work .now)) (a .left) (a .d) (a .m) (a .reference) (a .first) (a .n) (c .before .before .before .before .before .before .s .given .0 .0) (a .work .now)
+          (l .q) (l .work) (l .k) (v .3) (v .4) (c .before .before .before .loop-test .taken) (λ z. c .if1 .taken (ap (λ (x : Row). x .kind) (c .before .before .read-row .ensures) ∙ z)),
+    )
 
 pointer-run-returns : (t : ℕ) → pointer-run-lts.Need-returns (pointer-run-calls t) (pointer-run-at t) pointer-run.Post pointer-run-Inv-loop pointer-run-μ-loop
 pointer-run-returns t c =
@@ -55,9 +60,14 @@ pointer-run-loop-again-2 : (t : ℕ) → pointer-run-lts.Need-loop-again-2 (poin
 pointer-run-loop-again-2 t c =
     let a = c .before .before .before .before .before .before .before .before .before .before .before .before .before .before .before .before .before .before .before .before .args in
     let l = c .before .before .before .before .before .before .before .before .before .before .before .loop in
-    let v = l .inv in
-    (c .before .before .before .before .work .given ∙ v .0, omega (arith, c .before .before .before .before .before .before .before .before .before .before .loop-test .taken), v .2, v .3, pointing-nothing (a .schema .now) (a .sheet .now) (a .round) (length (a .work .now)) (a .left) (a .d) (a .m) (a .reference) (a .first) (a .n) (c .before .before .before .before .before .before .before .before .before .before .before .before .before .s .given .0 .0) (a .work .now)
-    (l .q) (l .work) (l .k) (v .3) (v .4) (c .before .before .before .before .before .before .before .before .before .before .loop-test .taken) (c .before .t .given .0 .0) _ (ap (λ (x : Row). x .kind) (sym (c .before .before .before .before .before .before .before .before .before .read-row .ensures)) ∙ c .before .before .before .before .before .before .before .if1 .left) (rw (v .0, c .before .t .given .1) at (c .before .before .before .before .before .point-to .ensures)))
+    let v = l .inv in (
+      c .before .before .before .before .work .given ∙ v .0,
+      omega (arith, c .before .before .before .before .before .before .before .before .before .before .loop-test .taken),
+      v .2,
+      v .3,
+      pointing-nothing (a .schema .now) (a .sheet .now) (a .round) (length (a .work .now)) (a .left) (a .d) (a .m) (a .reference) (a .first) (a .n) (c .before .before .before .before .before .before .before .before .before .before .before .before .before .s .given .0 .0) (a .work .now)
+          (l .q) (l .work) (l .k) (v .3) (v .4) (c .before .before .before .before .before .before .before .before .before .before .loop-test .taken) (c .before .t .given .0 .0) _ (ap (λ (x : Row). x .kind) (sym (c .before .before .before .before .before .before .before .before .before .read-row .ensures)) ∙ c .before .before .before .before .before .before .before .if1 .left) (rw (v .0, c .before .t .given .1) at (c .before .before .before .before .before .point-to .ensures)),
+    )
 
 pointer-run-put-pointer-requires : (t : ℕ) → pointer-run-lts.Need-put-pointer-requires (pointer-run-calls t) (pointer-run-at t) pointer-run.Post pointer-run-Inv-loop pointer-run-μ-loop
 pointer-run-put-pointer-requires t c κs = search needs
@@ -66,9 +76,14 @@ pointer-run-loop-again-3 : (t : ℕ) → pointer-run-lts.Need-loop-again-3 (poin
 pointer-run-loop-again-3 t c =
     let a = c .before .before .before .before .before .before .before .before .before .before .before .before .before .before .before .before .before .before .before .before .before .before .before .before .args in
     let l = c .before .before .before .before .before .before .before .before .before .before .before .before .before .before .before .loop in
-    let v = l .inv in
-    (c .before .work2 .given ∙ c .before .before .before .before .before .before .before .before .work .given ∙ v .0, omega (arith, c .before .before .before .before .before .before .before .before .before .before .before .before .before .before .loop-test .taken), v .2, v .3, rw (c .before .before .put-pointer .ensures) (pointing-at (a .schema .now) (a .sheet .now) (a .round) (length (a .work .now)) (a .left) (a .d) (a .m) (a .reference) (a .first) (a .n) (c .before .before .before .before .before .before .before .before .before .before .before .before .before .before .before .before .before .s .given .0 .0) (a .work .now)
-    (l .q) (l .work) (l .k) (v .3) (v .4) (c .before .before .before .before .before .before .before .before .before .before .before .before .before .before .loop-test .taken) (c .before .before .before .before .before .x .given .0 .1 .0) _ (c .before .before .before .before .before .x .given .0 .0) (ap (λ (x : Row). x .kind) (sym (c .before .before .before .before .before .before .before .before .before .before .before .before .before .read-row .ensures)) ∙ c .before .before .before .before .before .before .before .before .before .before .before .if1 .left) (rw (v .0, c .before .before .before .before .before .x .given .1) at (c .before .before .before .before .before .before .before .before .before .point-to .ensures))))
+    let v = l .inv in (
+      c .before .work2 .given ∙ c .before .before .before .before .before .before .before .before .work .given ∙ v .0,
+      omega (arith, c .before .before .before .before .before .before .before .before .before .before .before .before .before .before .loop-test .taken),
+      v .2,
+      v .3,
+      rw (c .before .before .put-pointer .ensures) (pointing-at (a .schema .now) (a .sheet .now) (a .round) (length (a .work .now)) (a .left) (a .d) (a .m) (a .reference) (a .first) (a .n) (c .before .before .before .before .before .before .before .before .before .before .before .before .before .before .before .before .before .s .given .0 .0) (a .work .now)
+          (l .q) (l .work) (l .k) (v .3) (v .4) (c .before .before .before .before .before .before .before .before .before .before .before .before .before .before .loop-test .taken) (c .before .before .before .before .before .x .given .0 .1 .0) _ (c .before .before .before .before .before .x .given .0 .0) (ap (λ (x : Row). x .kind) (sym (c .before .before .before .before .before .before .before .before .before .before .before .before .before .read-row .ensures)) ∙ c .before .before .before .before .before .before .before .before .before .before .before .if1 .left) (rw (v .0, c .before .before .before .before .before .x .given .1) at (c .before .before .before .before .before .before .before .before .before .point-to .ensures))),
+    )
 
 pointer-run-returns-2 : (t : ℕ) → pointer-run-lts.Need-returns-2 (pointer-run-calls t) (pointer-run-at t) pointer-run.Post pointer-run-Inv-loop pointer-run-μ-loop
 pointer-run-returns-2 t c =
@@ -99,21 +114,25 @@ pointer-run-closed t =
     (λ c. search needs)
     (λ c. search needs)
     (λ c.
-      let a = c .before .before .before .before .before .before .before .before .before .before .args in
-      let l = c .before .loop in
-      let v = l .inv in
-      let z = pointing-safe (a .schema .now) (a .sheet .now) (a .round) (length (a .work .now)) (a .left) (a .d) (a .m) (a .reference) (a .first) (a .n) (c .before .before .before .s .given .0 .0) (a .work .now) (l .q) (l .work) (l .k) (v .3) (v .4) (c .loop-test .taken) in
-      record { fits = omega (arith, z .stack, z .within, z .room, z .small, c .before .before .before .before .before .before .before .before .before .before .good) })
+    let a = c .before .before .before .before .before .before .before .before .before .before .args in
+    let l = c .before .loop in
+    let v = l .inv in
+    let z = pointing-safe (a .schema .now) (a .sheet .now) (a .round) (length (a .work .now)) (a .left) (a .d) (a .m) (a .reference) (a .first) (a .n) (c .before .before .before .s .given .0 .0) (a .work .now) (l .q) (l .work) (l .k) (v .3) (v .4) (c .loop-test .taken) in
+    record { fits = omega (arith, z .stack, z .within, z .room, z .small, c .before .before .before .before .before .before .before .before .before .before .good) })
     (λ c. record { fits = omega (arith, c .loop-test .taken, c .before .before .before .before .before .before .before .before .before .before .fits .n .fits) })
     (λ c κs. search needs)
     (λ c. search needs)
     (pointer-run-loop-again t)
     (λ c κs.
-      let a = c .before .before .before .before .before .before .before .before .before .before .before .before .before .before .args in
-      let l = c .before .before .before .before .before .loop in
-      let v = l .inv in
-      (omega (arith, c .before .before .before .before .before .before .before .before .before .before .before .before .before .before .pre .0), (rw (v .0) (pointing-safe (a .schema .now) (a .sheet .now) (a .round) (length (a .work .now)) (a .left) (a .d) (a .m) (a .reference) (a .first) (a .n) (c .before .before .before .before .before .before .before .s .given .0 .0) (a .work .now) (l .q) (l .work) (l .k) (v .3) (v .4) (c .before .before .before .before .loop-test .taken)),
-      pointing-open (a .schema .now) (a .sheet .now) (a .round) (length (a .work .now)) (a .left) (a .d) (a .m) (a .reference) (a .first) (a .n) (c .before .before .before .before .before .before .before .s .given .0 .0) (a .work .now) (l .q) (l .work) (l .k) (v .3) (v .4) (c .before .before .before .before .loop-test .taken) (v .2))))
+    let a = c .before .before .before .before .before .before .before .before .before .before .before .before .before .before .args in
+    let l = c .before .before .before .before .before .loop in
+    let v = l .inv in (
+      omega (arith, c .before .before .before .before .before .before .before .before .before .before .before .before .before .before .pre .0),
+      (
+        rw (v .0) (pointing-safe (a .schema .now) (a .sheet .now) (a .round) (length (a .work .now)) (a .left) (a .d) (a .m) (a .reference) (a .first) (a .n) (c .before .before .before .before .before .before .before .s .given .0 .0) (a .work .now) (l .q) (l .work) (l .k) (v .3) (v .4) (c .before .before .before .before .loop-test .taken)),
+        pointing-open (a .schema .now) (a .sheet .now) (a .round) (length (a .work .now)) (a .left) (a .d) (a .m) (a .reference) (a .first) (a .n) (c .before .before .before .before .before .before .before .s .given .0 .0) (a .work .now) (l .q) (l .work) (l .k) (v .3) (v .4) (c .before .before .before .before .loop-test .taken) (v .2),
+      ),
+    ))
     (λ c. search needs)
     (λ c. c .before .before .before .before .work .given ∙ c .before .before .before .before .before .before .before .before .before .before .before .loop .inv .0)
     (pointer-run-returns t)

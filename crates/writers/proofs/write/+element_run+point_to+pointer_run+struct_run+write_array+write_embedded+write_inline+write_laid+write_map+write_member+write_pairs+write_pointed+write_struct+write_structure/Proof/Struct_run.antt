@@ -7,7 +7,7 @@ use Rattle.members.proofs.Loops.{paid-done, ready, runCost}
 use lib.ListN.{length}
 use native.Mathlib.Omega.{arith}
 use Prim.Native.Nat.{_+_, _*_, _≤_}
-use mathlib.Core.Path.{_≡_, refl, sym, _∙_}
+use mathlib.Core.Path.{_≡_, refl, _∙_}
 use Prim.Native.Nat.{_-_}
 use borrow.Author.Needs.{needs}
 use Prim.Native.Nat.{ℕ}
@@ -31,9 +31,13 @@ struct-run-loop-holds : (t : ℕ) → struct-run-lts.Need-loop-holds (struct-run
 struct-run-loop-holds t c =
     let a = c .before .before .before .before .before .before .before .before .args in
     let d = paid-done (a .round) (a .p) (runCost (a .i .size) (a .n)) (c .before .before .before .before .run-cost .result) (c .before .before .before .pay .result) (c .before .s .given .0 .0) (c .before .before .before .before .run-cost .ensures) (c .before .before .before .pay .ensures) (c .before .s .given .1) in
-    let z = paid-numbers (a .round) (a .p) (runCost (a .i .size) (a .n)) (c .before .s .given .0 .0) d in
-    (refl, omega arith, omega (arith, z .0, z .1, c .before .before .before .before .before .before .before .before .pre .1 .1), struct-begin (a .schema .now) (a .sheet .now) (a .round) (length (a .work .now)) (a .left) (a .d) (a .m) (a .i) (a .pairs) (a .first) (a .n) (c .before .s .given .0 .0) (a .work .now)
-    (ready (a .i .size) (a .n) (c .before .before .before .before .before .before .before .before .pre .1 .0) d .safe))
+    let z = paid-numbers (a .round) (a .p) (runCost (a .i .size) (a .n)) (c .before .s .given .0 .0) d in (
+      refl,
+      omega arith,
+      omega (arith, z .0, z .1, c .before .before .before .before .before .before .before .before .pre .1 .1),
+      struct-begin (a .schema .now) (a .sheet .now) (a .round) (length (a .work .now)) (a .left) (a .d) (a .m) (a .i) (a .pairs) (a .first) (a .n) (c .before .s .given .0 .0) (a .work .now)
+          (ready (a .i .size) (a .n) (c .before .before .before .before .before .before .before .before .pre .1 .0) d .safe),
+    )
 
 struct-run-element-source-requires : (t : ℕ) → struct-run-lts.Need-element-source-requires (struct-run-calls t) (struct-run-at t) struct-run.Post struct-run-Inv-loop struct-run-μ-loop
 struct-run-element-source-requires t c κs = search needs
@@ -53,11 +57,14 @@ struct-run-loop-again t c =
     let a = c .before .before .before .before .before .before .before .before .before .before .before .before .before .before .before .before .before .before .before .before .before .before .before .args in
     let l = c .before .before .before .before .before .before .before .before .before .before .before .before .before .before .loop in
     let v = l .inv in
-    let g = struct-numbers (a .schema .now) (a .sheet .now) (a .round) (length (a .work .now)) (a .left) (a .d) (a .m) (a .i) (a .pairs) (a .first) (a .n) (c .before .before .before .before .before .before .before .before .before .before .before .before .before .before .before .before .s .given .0 .0) (a .work .now) (l .q) (l .work) (l .k) (v .3) in
-    (c .before .before .before .before .work2 .given ∙ c .before .before .before .before .before .before .before .before .before .work .given ∙ v .0, omega (arith, c .before .before .before .before .before .before .before .before .before .before .before .before .before .loop-test .taken), v .2,
-    struct-turn (a .schema .now) (a .sheet .now) (a .round) (length (a .work .now)) (a .left) (a .d) (a .m) (a .i) (a .pairs) (a .first) (a .n) (c .before .before .before .before .before .before .before .before .before .before .before .before .before .before .before .before .s .given .0 .0) (a .work .now) (l .q) (c .before .before .before .before .before .before .before .before .before .before .element-note .result) (c .before .u .given .0 .0)
-    (l .work) _ _ (l .k) (c .before .before .before .before .before .before .before .before .before .before .before .before .element-row .result) (fieldsIs (a .sheet .now) (c .before .before .before .before .before .before .element-source .result)) (v .3) (c .before .before .before .before .before .before .before .before .before .before .before .before .before .loop-test .taken) (c .before .before .before .before .before .before .before .before .before .before .before .before .element-row .ensures .0) (c .before .before .before .before .before .before .element-source .ensures (a .sheet .now)) (omega (arith, g .1 .met, v .2))
-    (rw (v .0) at (c .before .before .before .before .before .before .before .before .before .before .element-note .ensures)) (rw (c .before .before .before .before .before .before .before .before .before .work .given ∙ v .0, c .before .u .given .1) at (c .before .before .before .before .before .write-struct .ensures)))
+    let g = struct-numbers (a .schema .now) (a .sheet .now) (a .round) (length (a .work .now)) (a .left) (a .d) (a .m) (a .i) (a .pairs) (a .first) (a .n) (c .before .before .before .before .before .before .before .before .before .before .before .before .before .before .before .before .s .given .0 .0) (a .work .now) (l .q) (l .work) (l .k) (v .3) in (
+      c .before .before .before .before .work2 .given ∙ c .before .before .before .before .before .before .before .before .before .work .given ∙ v .0,
+      omega (arith, c .before .before .before .before .before .before .before .before .before .before .before .before .before .loop-test .taken),
+      v .2,
+      struct-turn (a .schema .now) (a .sheet .now) (a .round) (length (a .work .now)) (a .left) (a .d) (a .m) (a .i) (a .pairs) (a .first) (a .n) (c .before .before .before .before .before .before .before .before .before .before .before .before .before .before .before .before .s .given .0 .0) (a .work .now) (l .q) (c .before .before .before .before .before .before .before .before .before .before .element-note .result) (c .before .u .given .0 .0)
+          (l .work) _ _ (l .k) (c .before .before .before .before .before .before .before .before .before .before .before .before .element-row .result) (fieldsIs (a .sheet .now) (c .before .before .before .before .before .before .element-source .result)) (v .3) (c .before .before .before .before .before .before .before .before .before .before .before .before .before .loop-test .taken) (c .before .before .before .before .before .before .before .before .before .before .before .before .element-row .ensures .0) (c .before .before .before .before .before .before .element-source .ensures (a .sheet .now)) (omega (arith, g .1 .met, v .2))
+          (rw (v .0) at (c .before .before .before .before .before .before .before .before .before .before .element-note .ensures)) (rw (c .before .before .before .before .before .before .before .before .before .work .given ∙ v .0, c .before .u .given .1) at (c .before .before .before .before .before .write-struct .ensures)),
+    )
 
 struct-run-returns-2 : (t : ℕ) → struct-run-lts.Need-returns-2 (struct-run-calls t) (struct-run-at t) struct-run.Post struct-run-Inv-loop struct-run-μ-loop
 struct-run-returns-2 t c =
@@ -88,19 +95,21 @@ struct-run-closed t =
     (struct-run-loop-holds t)
     (λ c κs. search needs)
     (λ c κs.
-      let a = c .before .before .before .before .before .before .before .before .before .before .before .before .args in
-      let l = c .before .before .before .loop in
-      let v = l .inv in
-      let g = struct-numbers (a .schema .now) (a .sheet .now) (a .round) (length (a .work .now)) (a .left) (a .d) (a .m) (a .i) (a .pairs) (a .first) (a .n) (c .before .before .before .before .before .s .given .0 .0) (a .work .now) (l .q) (l .work) (l .k) (v .3) in
-      (rw (v .0) (g .0), omega (arith, g .1 .met, v .2)))
+    let a = c .before .before .before .before .before .before .before .before .before .before .before .before .args in
+    let l = c .before .before .before .loop in
+    let v = l .inv in
+    let g = struct-numbers (a .schema .now) (a .sheet .now) (a .round) (length (a .work .now)) (a .left) (a .d) (a .m) (a .i) (a .pairs) (a .first) (a .n) (c .before .before .before .before .before .s .given .0 .0) (a .work .now) (l .q) (l .work) (l .k) (v .3) in
+    (rw (v .0) (g .0), omega (arith, g .1 .met, v .2)))
     (struct-run-element-source-requires t)
     (λ c κs.
-      let a = c .before .before .before .before .before .before .before .before .before .before .before .before .before .before .before .before .before .args in
-      let l = c .before .before .before .before .before .before .before .before .loop in
-      let v = l .inv in
-      let g = struct-numbers (a .schema .now) (a .sheet .now) (a .round) (length (a .work .now)) (a .left) (a .d) (a .m) (a .i) (a .pairs) (a .first) (a .n) (c .before .before .before .before .before .before .before .before .before .before .s .given .0 .0) (a .work .now) (l .q) (l .work) (l .k) (v .3) in
-      (omega (arith, c .before .before .before .before .before .before .before .before .before .before .before .before .before .before .before .before .before .pre .0), rw (c .before .before .before .work .given ∙ v .0) (quiet (a .round) (length (a .work .now)) (l .q) (l .work) (a .d) (a .m) (row (a .sheet .now) (c .before .before .before .before .before .before .element-row .result) .kind) (a .pairs) (c .before .before .before .before .element-note .result) _ (g .0) (omega (arith, g .1 .met, v .2))
-      (rw (v .0) at (c .before .before .before .before .element-note .ensures)) .safe)))
+    let a = c .before .before .before .before .before .before .before .before .before .before .before .before .before .before .before .before .before .args in
+    let l = c .before .before .before .before .before .before .before .before .loop in
+    let v = l .inv in
+    let g = struct-numbers (a .schema .now) (a .sheet .now) (a .round) (length (a .work .now)) (a .left) (a .d) (a .m) (a .i) (a .pairs) (a .first) (a .n) (c .before .before .before .before .before .before .before .before .before .before .s .given .0 .0) (a .work .now) (l .q) (l .work) (l .k) (v .3) in (
+      omega (arith, c .before .before .before .before .before .before .before .before .before .before .before .before .before .before .before .before .before .pre .0),
+      rw (c .before .before .before .work .given ∙ v .0) (quiet (a .round) (length (a .work .now)) (l .q) (l .work) (a .d) (a .m) (row (a .sheet .now) (c .before .before .before .before .before .before .element-row .result) .kind) (a .pairs) (c .before .before .before .before .element-note .result) _ (g .0) (omega (arith, g .1 .met, v .2))
+          (rw (v .0) at (c .before .before .before .before .element-note .ensures)) .safe),
+    ))
     (λ c. search needs)
     (λ c. c .before .before .before .before .work2 .given ∙ c .before .before .before .before .before .before .before .before .before .work .given ∙ c .before .before .before .before .before .before .before .before .before .before .before .before .before .before .loop .inv .0)
     (struct-run-returns t)

@@ -1,12 +1,5 @@
 -- The answers of `write_array`.
-use Prim.Native.Nat.{_+_}
-use Rattle.writers.proofs.Embedding.{fit-within}
-use mathlib.Core.Path.{refl}
-use native.Mathlib.Omega.{arith}
-use Rattle.writers.proofs.Filled.{run-higher}
-use Rattle.writers.proofs.Pairing.{pairs-missing, pairs-refused, pairs-dropped, pairs-room, pairs-kept, map-subtype, map-wide, map-wrong, map-pairs, map-empty, mark-room, pairs-asked}
-use Rattle.writers.proofs.Fillings.{laid-wide, laid-empty, laid-refused, laid-dropped, laid-room, laid-kept, embedded-refused, embedded-dropped, embedded-room, embedded-kept, array-none, array-wrong, array-pointed, array-embedded}
-use lib.ListN.{length}
+use Rattle.writers.proofs.Fillings.{array-none, array-wrong, array-pointed, array-embedded}
 use denote.Ref.{now}
 use borrow.Author.Needs.{needs}
 use Prim.Native.Nat.{ℕ}

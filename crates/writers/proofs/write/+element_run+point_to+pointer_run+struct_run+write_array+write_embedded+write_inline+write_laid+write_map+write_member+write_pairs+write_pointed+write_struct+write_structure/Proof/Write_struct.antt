@@ -1,8 +1,5 @@
 -- The answers of `write_struct`.
-use Rattle.area.specs.Posts.{Open}
-use Rattle.members.specs.Posts.{Buffer}
 use Rattle.writers.proofs.Structs.{paid-safe}
-use Rattle.area.specs.Posts.{Safe}
 use Rattle.writers.proofs.Structs.{entered, writing-begin, writing-skip, writing-turn, writing-refused, writing-done, writing-open, writing-low, struct-deep, struct-dear}
 use Rattle.writers.proofs.Nths.{nth-read}
 use native.Mathlib.Omega.{arith}
@@ -41,9 +38,13 @@ write-struct-loop-again : (t : ℕ) → write-struct-lts.Need-loop-again (write-
 write-struct-loop-again t c =
     let a = c .before .before .before .before .before .before .before .before .before .before .before .before .before .before .before .before .before .before .before .before .args in
     let l = c .before .before .before .before .loop in
-    let i = l .inv in
-    (i .0, refl, refl, writing-skip (a .schema .now) (a .sheet .now) (a .round) (length (c .before .before .before .before .before .before .before .before .before .use-struct .last .0)) (a .left - 1) (a .d) (fieldsIs (a .sheet .now) (a .from)) _ (c .before .before .before .before .before .before .before .before .before .use-struct .last .0) (l .q) (l .work) (l .k) (i .3)
-    (c .before .before .read-member .result) (c .before .before .before .loop-test .taken) (nth-read (a .schema .now) (a .d) (l .k) (c .before .before .read-member .result) (c .before .before .read-member .ensures) (c .before .before .before .loop-test .taken)) (c .if2 .taken))
+    let i = l .inv in (
+      i .0,
+      refl,
+      refl,
+      writing-skip (a .schema .now) (a .sheet .now) (a .round) (length (c .before .before .before .before .before .before .before .before .before .use-struct .last .0)) (a .left - 1) (a .d) (fieldsIs (a .sheet .now) (a .from)) _ (c .before .before .before .before .before .before .before .before .before .use-struct .last .0) (l .q) (l .work) (l .k) (i .3)
+          (c .before .before .read-member .result) (c .before .before .before .loop-test .taken) (nth-read (a .schema .now) (a .d) (l .k) (c .before .before .read-member .result) (c .before .before .read-member .ensures) (c .before .before .before .loop-test .taken)) (c .if2 .taken),
+    )
 
 write-struct-returns-2 : (t : ℕ) → write-struct-lts.Need-returns-2 (write-struct-calls t) (write-struct-at t) write-struct.Post write-struct-Inv-loop write-struct-μ-loop
 write-struct-returns-2 t c =
@@ -59,11 +60,14 @@ write-struct-loop-again-2 : (t : ℕ) → write-struct-lts.Need-loop-again-2 (wr
 write-struct-loop-again-2 t c =
     let a = c .before .before .before .before .before .before .before .before .before .before .before .before .before .before .before .before .before .before .before .before .before .before .before .before .before .before .before .before .args in
     let l = c .before .before .before .before .before .before .before .before .before .before .before .before .loop in
-    let i = l .inv in
-    (c .before .before .before .before .work2 .given ∙ i .0, refl, refl,
-    writing-turn (a .schema .now) (a .sheet .now) (a .round) (length (c .before .before .before .before .before .before .before .before .before .before .before .before .before .before .before .before .before .use-struct .last .0)) (a .left - 1) (a .d) (fieldsIs (a .sheet .now) (a .from)) _ (c .before .before .before .before .before .before .before .before .before .before .before .before .before .before .before .before .before .use-struct .last .0) (l .q) (l .work) (l .k) (i .3)
-    (c .before .before .before .before .before .before .before .before .before .before .read-member .result) (c .before .before .before .before .before .before .before .value-of .result) (c .before .before .before .before .before .before .before .before .before .before .before .loop-test .taken) (nth-read (a .schema .now) (a .d) (l .k) (c .before .before .before .before .before .before .before .before .before .before .read-member .result) (c .before .before .before .before .before .before .before .before .before .before .read-member .ensures) (c .before .before .before .before .before .before .before .before .before .before .before .loop-test .taken)) (c .before .before .before .before .before .before .before .before .if2 .left) (c .before .before .before .before .before .before .before .value-of .ensures)
-    (c .before .t .given .0 .0) _ (rw (i .0, c .before .t .given .1) at (c .before .before .before .before .before .write-member .ensures)))
+    let i = l .inv in (
+      c .before .before .before .before .work2 .given ∙ i .0,
+      refl,
+      refl,
+      writing-turn (a .schema .now) (a .sheet .now) (a .round) (length (c .before .before .before .before .before .before .before .before .before .before .before .before .before .before .before .before .before .use-struct .last .0)) (a .left - 1) (a .d) (fieldsIs (a .sheet .now) (a .from)) _ (c .before .before .before .before .before .before .before .before .before .before .before .before .before .before .before .before .before .use-struct .last .0) (l .q) (l .work) (l .k) (i .3)
+          (c .before .before .before .before .before .before .before .before .before .before .read-member .result) (c .before .before .before .before .before .before .before .value-of .result) (c .before .before .before .before .before .before .before .before .before .before .before .loop-test .taken) (nth-read (a .schema .now) (a .d) (l .k) (c .before .before .before .before .before .before .before .before .before .before .read-member .result) (c .before .before .before .before .before .before .before .before .before .before .read-member .ensures) (c .before .before .before .before .before .before .before .before .before .before .before .loop-test .taken)) (c .before .before .before .before .before .before .before .before .if2 .left) (c .before .before .before .before .before .before .before .value-of .ensures)
+          (c .before .t .given .0 .0) _ (rw (i .0, c .before .t .given .1) at (c .before .before .before .before .before .write-member .ensures)),
+    )
 
 write-struct-returns-3 : (t : ℕ) → write-struct-lts.Need-returns-3 (write-struct-calls t) (write-struct-at t) write-struct.Post write-struct-Inv-loop write-struct-μ-loop
 write-struct-returns-3 t c =
@@ -94,10 +98,10 @@ write-struct-closed t =
     (λ c. search needs)
     (λ c κs. paid-safe (c .before .before .before .before .before .before .before .before .before .before .args .round) (length (c .before .before .before .before .before .before .before .before .before .before .args .work .now)) (c .before .before .before .before .before .before .before .before .before .before .args .p) (16 + c .before .before .before .before .before .before .before .before .before .before .args .d .size) (c .before .before .s .given .0 .0) (c .before .before .before .before .before .before .before .before .before .before .pre .1) (sym (c .before .before .before .before .pay .ensures) ∙ (c .before .before .s .given .1)))
     (λ c.
-      let a = c .before .before .before .before .before .before .before .before .before .before .before .before .before .before .args in
-      let e = entered (a .schema .now) (a .round) (length (a .work .now)) (a .p) (a .work .now) (a .d) (c .before .before .before .before .before .before .s .given .0 .0) (c .before .before .before .use-struct .result) (c .before .before .before .use-struct .last .0) (c .before .before .before .before .before .before .before .before .before .before .before .before .before .before .pre .1) (sym (c .before .before .before .before .before .before .before .before .pay .ensures) ∙ (c .before .before .before .before .before .before .s .given .1)) (c .before .before .before .use-struct .ensures) in
-      let m = c .before .before .before .use-struct .ensures .top in
-      record { fits = omega (arith, e .safe .stack, e .safe .room, e .safe .within, e .safe .small, c .before .before .before .before .before .before .before .before .before .before .before .before .before .before .good) })
+    let a = c .before .before .before .before .before .before .before .before .before .before .before .before .before .before .args in
+    let e = entered (a .schema .now) (a .round) (length (a .work .now)) (a .p) (a .work .now) (a .d) (c .before .before .before .before .before .before .s .given .0 .0) (c .before .before .before .use-struct .result) (c .before .before .before .use-struct .last .0) (c .before .before .before .before .before .before .before .before .before .before .before .before .before .before .pre .1) (sym (c .before .before .before .before .before .before .before .before .pay .ensures) ∙ (c .before .before .before .before .before .before .s .given .1)) (c .before .before .before .use-struct .ensures) in
+    let m = c .before .before .before .use-struct .ensures .top in
+    record { fits = omega (arith, e .safe .stack, e .safe .room, e .safe .within, e .safe .small, c .before .before .before .before .before .before .before .before .before .before .before .before .before .before .good) })
     (λ c. search needs)
     (write-struct-loop-holds t)
     (λ c κs. search needs)
@@ -107,11 +111,15 @@ write-struct-closed t =
     (λ c κs. search needs)
     (λ c. omega (arith, c .before .before .before .before .before .before .before .before .before .before .before .before .before .before .before .before .before .before .if1 .left))
     (λ c κs.
-      let a = c .before .before .before .before .before .before .before .before .before .before .before .before .before .before .before .before .before .before .before .before .before .before .args in
-      let l = c .before .before .before .before .before .before .loop in
-      let i = l .inv in
-      (omega (arith, c .before .before .before .before .before .before .before .before .before .before .before .before .before .before .before .before .before .before .before .before .before .before .pre .0, c .before .before .before .before .before .before .before .before .before .before .before .before .before .before .before .before .before .before .if1 .left), ((rw (i .0) (i .3 .safe), writing-open (a .schema .now) (a .sheet .now) (a .round) (length (c .before .before .before .before .before .before .before .before .before .before .before .use-struct .last .0)) (a .left - 1) (a .d) (fieldsIs (a .sheet .now) (a .from)) _ (c .before .before .before .before .before .before .before .before .before .before .before .use-struct .last .0) (l .q) (l .work) (l .k) (i .3) (omega (arith, c .before .before .before .before .before .before .before .before .before .before .before .before .before .before .before .before .before .before .before .before .before .before .good))),
-      record { low = writing-low (a .schema .now) (a .sheet .now) (a .round) (length (c .before .before .before .before .before .before .before .before .before .before .before .use-struct .last .0)) (a .left - 1) (a .d) (fieldsIs (a .sheet .now) (a .from)) _ (c .before .before .before .before .before .before .before .before .before .before .before .use-struct .last .0) (l .q) (l .work) (l .k) (i .3) })))
+    let a = c .before .before .before .before .before .before .before .before .before .before .before .before .before .before .before .before .before .before .before .before .before .before .args in
+    let l = c .before .before .before .before .before .before .loop in
+    let i = l .inv in (
+      omega (arith, c .before .before .before .before .before .before .before .before .before .before .before .before .before .before .before .before .before .before .before .before .before .before .pre .0, c .before .before .before .before .before .before .before .before .before .before .before .before .before .before .before .before .before .before .if1 .left),
+      (
+        (rw (i .0) (i .3 .safe), writing-open (a .schema .now) (a .sheet .now) (a .round) (length (c .before .before .before .before .before .before .before .before .before .before .before .use-struct .last .0)) (a .left - 1) (a .d) (fieldsIs (a .sheet .now) (a .from)) _ (c .before .before .before .before .before .before .before .before .before .before .before .use-struct .last .0) (l .q) (l .work) (l .k) (i .3) (omega (arith, c .before .before .before .before .before .before .before .before .before .before .before .before .before .before .before .before .before .before .before .before .before .before .good))),
+        record { low = writing-low (a .schema .now) (a .sheet .now) (a .round) (length (c .before .before .before .before .before .before .before .before .before .before .before .use-struct .last .0)) (a .left - 1) (a .d) (fieldsIs (a .sheet .now) (a .from)) _ (c .before .before .before .before .before .before .before .before .before .before .before .use-struct .last .0) (l .q) (l .work) (l .k) (i .3) },
+      ),
+    ))
     (λ c. search needs)
     (λ c. c .before .before .before .before .work2 .given ∙ c .before .before .before .before .before .before .before .before .before .before .before .before .loop .inv .0 ∙ c .before .before .before .before .before .before .before .before .before .before .before .before .before .before .before .before .work .given)
     (write-struct-returns-2 t)

@@ -1,0 +1,19 @@
+-- `members::slots::entries_at` meets its contract. Assumes nothing.
+use native.Mathlib.Omega.{arith}
+use Prim.Native.Nat.{_+_}
+use lib.ListN.{length}
+use Rattle.members.proofs.Choosing.{entries-behind}
+use borrow.Author.Needs.{needs}
+use Rattle.members.proofs.slots.entries_at.Statement.{statement}
+use Rattle.members.proofs.slots.entries_at.Tie as tie
+
+pub entries-at-spec : {M : Type 1} → statement M
+entries-at-spec =
+    tie.close
+    (tie.spec
+    (λ c. search needs)
+    (λ c.
+    let s = c .before in
+    let f = s .args .schema .now in
+    (omega (arith, s .good), λ n. entries-behind f n (length f) (s .args .place + 4) (omega arith) (omega (arith, c .if1 .taken))))
+    (λ c. search needs))
