@@ -58,3 +58,12 @@ has out "FAIL  schema against scene: structure 0x40 at byte 72 is not in the sch
 head -c 40 "$e/case1/case1.sheet" >"$t/short"
 run 1 accept "$e/case1/case1.pso" --sheet "$t/short"
 has out "FAIL  rebuild from the pack's own schema: building is refused: refusal 1: the sheet breaks its layout (2 rows need 52 bytes, there are 40)"
+
+# A structure that points to itself: the walk ends.
+cp "$e/case1/case1.schema" "$t/ring.schema"; poke "$t/ring.schema" 27 10; poke "$t/ring.schema" 36 14 3 0 0 0 0 0 100
+cp "$e/case1/case1.sheet" "$t/ring.sheet"; poke "$t/ring.sheet" 28 25; poke "$t/ring.sheet" 36 0 0 0 100 0 0 0 2
+run 0 pack "$t/ring.sheet" --schema "$t/ring.schema"
+run 0 accept "$t/ring.pso" --sheet "$t/ring.sheet"; has out "pass  pointers followed: 1 pointer, 2 structures"
+poke "$t/ring.pso" 16 0 0 200 1
+run 1 accept "$t/ring.pso" --sheet "$t/ring.sheet"; has out "pass  pointers followed: 2 pointers, 2 structures"
+has out "FAIL  rebuild from the pack's own schema: byte 18, in block 1, start 0x2, is 0x80, 0x00 is due"
