@@ -42,13 +42,13 @@ pub need-leaves : (F : Bytes) (d : Def) (m : coded.Member) (k : ℕ) (buf : Byte
 need-leaves F d m k buf f s e =
     ap (λ (a : M Bytes). a s) (need-no (defOf F d) (memberOf m) k buf f (rw (def-size F d) e)) ∙ ap (λ (x : ℕ). leaves (defOf F d) (memberOf m) 1 x buf s) (def-size F d)
 
-pub need-wide : (F : Bytes) (d : Def) (m : coded.Member) (k : ℕ) (buf : Bytes) (f : M Bytes) (s : State) → leb (m .offset + k) (d .size) ≡ false
+need-wide : (F : Bytes) (d : Def) (m : coded.Member) (k : ℕ) (buf : Bytes) (f : M Bytes) (s : State) → leb (m .offset + k) (d .size) ≡ false
     → need (defOf F d) (memberOf m) k buf f s ≡ done buf (withRemark (remarkOn d m 1 (d .size)) s)
 need-wide F d m k buf f s e = need-leaves F d m k buf f s e ∙ leaves-is F d m 1 (d .size) buf s
 
 -- ---- the numbers
 -- they stay in order when the stack's top goes
-pub safe-pop : (R : Round) (n : ℕ) (p : Progress) (base : ℕ) → Safe R n p → stackAt R ≤ base → base ≤ p .top → Safe R n (withTop p base)
+safe-pop : (R : Round) (n : ℕ) (p : Progress) (base : ℕ) → Safe R n p → stackAt R ≤ base → base ≤ p .top → Safe R n (withTop p base)
 safe-pop R n p base safe low high = record {
   small = safe .small;
   room = safe .room;

@@ -25,7 +25,7 @@ pub top-within : (R : Round) (n : ℕ) (p : Progress) → Safe R n p → p .top 
 top-within R n p safe = omega (arith, safe .stack, safe .within, safe .room)
 
 -- the numbers stay in order when an item is laid
-pub safe-larger : (R : Round) (n : ℕ) (p q : Progress) (len : ℕ) → Safe R n p → p .end + (16 + len) ≤ itemsAt R + p .charge → stackAt R + len ≤ p .top → Larger p len (p .top - len) q → Safe R n q
+safe-larger : (R : Round) (n : ℕ) (p q : Progress) (len : ℕ) → Safe R n p → p .end + (16 + len) ≤ itemsAt R + p .charge → stackAt R + len ≤ p .top → Larger p len (p .top - len) q → Safe R n q
 safe-larger R n p q len safe room low g = record {
   small = safe .small;
   room = safe .room;

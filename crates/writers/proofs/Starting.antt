@@ -22,7 +22,7 @@ use Rattle.area.specs.Area.{Rep, startedIn}
 use Rattle.area.specs.Posts.{gives, refuses, Meets}
 
 -- from the i-th on
-pub drop-nth : {A : Type 0} (l : List A) (i : ℕ) (x : A) → nth l i ≡ some x → drop i l ≡ x ∷ drop (i + 1) l
+drop-nth : {A : Type 0} (l : List A) (i : ℕ) (x : A) → nth l i ≡ some x → drop i l ≡ x ∷ drop (i + 1) l
 unfolding nth
 drop-nth [] i x e = absurd (let z : _≡_ {A = ℕ} 0 1 = cc in omega arith)
 drop-nth (a ∷ l) zero x e = let q : a ≡ x = cc in ap (λ y. y ∷ l) q

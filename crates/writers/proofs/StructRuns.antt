@@ -33,7 +33,7 @@ use Rattle.writers.specs.Posts.{Named, deeper, Started, Pushes, structRu
 use Rattle.writers.proofs.Children.{length-pairs}
 
 -- the pairs of a map, by number
-pub pair-ith : (r n i : ℕ) → i < n → Ith (r + 2 * i, r + 2 * i + 1) i (pairsOf (rowsFrom r (2 * n)))
+pair-ith : (r n i : ℕ) → i < n → Ith (r + 2 * i, r + 2 * i + 1) i (pairsOf (rowsFrom r (2 * n)))
 unfolding pairsOf rowsFrom
 pair-ith r zero i h = absurd (omega arith)
 pair-ith r (suc n) zero h =
@@ -92,7 +92,7 @@ quiet R n q v d m kind pairs t v' h o x = go (needsNote kind pairs) refl
         rw f (record { end = refl; top = refl; charge = refl; seen = omega arith; safe = h })
 
 -- pushed after it, a structure of `size` bytes is paid for
-pub quiet-grown : (R : Round) (n : ℕ) (q t x : Progress) (size : ℕ) → Quiet R n q t → Started t size x → Grown q 0 size 0 x
+quiet-grown : (R : Round) (n : ℕ) (q t x : Progress) (size : ℕ) → Quiet R n q t → Started t size x → Grown q 0 size 0 x
 quiet-grown R n q t x size a b =
     record {
       more = omega (arith, a .end, b .grown .more);

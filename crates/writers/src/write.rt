@@ -1,21 +1,11 @@
 // The writers: a structure leads to its members and a member to further structures, inline, by pointer, in runs and in map pairs.
-use crate::choose::Info;
-use crate::choose::array_info;
-use crate::choose::by_pointer;
-use crate::choose::embed;
-use crate::choose::is_array_value;
 use crate::choose::is_struct_value;
-use crate::choose::item_count;
-use crate::choose::lay_run;
-use crate::choose::least;
 use crate::choose::own_type;
-use crate::choose::pair_count;
-use crate::elements::element_note;
-use crate::elements::element_row;
-use crate::elements::element_source;
 use crate::source::Source;
 use crate::source::source_of;
 use crate::source::value_of;
+use crate::write::arrays::write_array;
+use crate::write::maps::write_map;
 use area::Laid;
 use area::Progress;
 use area::Round;
@@ -24,30 +14,22 @@ use area::stack::shift;
 use area::used::use_struct;
 use members::Def;
 use members::Looked;
-use members::Ran;
 use members::Wrote;
 use members::look_up;
 use members::member::fits;
 use members::member::write_plain;
 use members::member::wrong;
 use members::pay;
-use members::reference_at;
-use members::runs::plain_element_run;
-use members::runs::run_cost;
-use members::runs::stop_run;
 use members::say;
-use members::slots::high_half;
 use members::slots::put_pointer;
 use schema::members::Member;
 use schema::members::read_member;
 use value::Found;
 use value::read_row;
 use value::value_row;
-ghost use mathlib.Core.Path.{_≡_};
-ghost use Prim.Native.Nat.{_+_, _*_, _≤_, _<_, _^_};
 ghost use lib.ListN.{length};
 ghost use Rattle.value.specs.Answer.{valueIs};
-ghost use Rattle.value.specs.Rows.{row, rowsFrom};
+ghost use Rattle.value.specs.Rows.{row};
 ghost use Rattle.layout.specs.Kinds;
 ghost use Rattle.layout.specs.Members;
 ghost use Rattle.layout.specs.Runs;
@@ -55,9 +37,12 @@ ghost use Rattle.layout.specs.Write;
 ghost use Rattle.area.specs.Area.{envOf};
 ghost use Rattle.area.specs.Posts.{Safe, Open};
 ghost use Rattle.members.specs.Names.{defOf, memberOf};
-ghost use Rattle.members.specs.Posts.{Buffer, Fills, Yields};
+ghost use Rattle.members.specs.Posts.{Buffer, Fills};
 ghost use Rattle.writers.specs.Sources.{fieldsIs};
-ghost use Rattle.writers.specs.Posts.{Of, Named, deeper, Pushes, Points, structRun};
+ghost use Rattle.writers.specs.Posts.{Of, Named, deeper, Pushes, Points};
+
+mod arrays;
+mod maps;
 
 // A structure's pointer; none (remark 4); or a refusal.
 pub enum Pointed {
@@ -280,343 +265,6 @@ fn point_to(
                 Laid::Refused(k, u) => Pointed::Refused(k, u),
                 Laid::At(x, u) => Pointed::At(x, u),
             },
-        },
-    }
-}
-
-// An array, by pointer or inline.
-fn write_array(
-    sheet: &[u8],
-    schema: &[u8],
-    work: &mut [u8],
-    round: Round,
-    left: usize,
-    p: Progress,
-    d: Def,
-    m: Member,
-    v: Found,
-) -> Wrote
-    requires { ⌜ Safe round (length (now work)) p × Open p ⌝ }
-    requires { ⌜ Buffer round p (d .size) ⌝ }
-    ensures { λ r. ⌜ Fills (Of (now (schema .entry))) round (length (now (work .entry))) p (now (work .entry)) (d .size)
-        (λ S buf. Write.arrayMember (envOf (now (sheet .entry)) S round) (deeper (now (sheet .entry)) round left S) (defOf (now (schema .entry)) d) (memberOf m) (valueIs v) buf) r (now (work .exit)) ⌝ }
-{
-    match array_info(schema, d, m) {
-        Info::Missing => Wrote::Done(say(work, round, p, d, m, 5, 0)),
-        Info::At(x) => {
-            let row = value_row(sheet, v);
-            if !is_array_value(sheet, row) {
-                return wrong(work, round, p, d, m, v);
-            }
-            let n = item_count(row);
-            if by_pointer(m.subtype, x.subtype) {
-                return write_laid(sheet, schema, work, round, left, p, d, m, x, row.a, n);
-            }
-            let k = least(n, high_half(m.reference));
-            write_embedded(sheet, schema, work, round, left, p, d, m, x, row.a, k)
-        }
-    }
-}
-
-// An array by pointer; without items it ends here.
-fn write_laid(
-    sheet: &[u8],
-    schema: &[u8],
-    work: &mut [u8],
-    round: Round,
-    left: usize,
-    p: Progress,
-    d: Def,
-    m: Member,
-    x: Member,
-    first: u32,
-    n: u32,
-) -> Wrote
-    requires { ⌜ Safe round (length (now work)) p × Open p ⌝ }
-    requires { ⌜ Buffer round p (d .size) ⌝ }
-    ensures { λ r. ⌜ Fills (Of (now (schema .entry))) round (length (now (work .entry))) p (now (work .entry)) (d .size)
-        (λ S buf. Write.pointedArray (envOf (now (sheet .entry)) S round) (deeper (now (sheet .entry)) round left S) (defOf (now (schema .entry)) d) (memberOf m) (memberOf x) (rowsFrom first n) buf) r (now (work .exit)) ⌝ }
-{
-    if !fits(d, m, 16) {
-        return Wrote::Done(say(work, round, p, d, m, 1, d.size));
-    }
-    if n == 0 {
-        return Wrote::Done(p);
-    }
-    match element_run(sheet, schema, work, round, left, p, d, m, x, first, n) {
-        Ran::Refused(k, t) => Wrote::Refused(k, t),
-        Ran::Dropped(t) => Wrote::Done(t),
-        Ran::Kept(block, t) => {
-            let base = p.top;
-            let at = base - (d.size as usize) + (m.offset as usize);
-            lay_run(work, round, t, block, t.top - base, at, n)
-        }
-    }
-}
-
-// An array inline: first the run with all that it lays, remarks and uses, then does it fit.
-fn write_embedded(
-    sheet: &[u8],
-    schema: &[u8],
-    work: &mut [u8],
-    round: Round,
-    left: usize,
-    p: Progress,
-    d: Def,
-    m: Member,
-    x: Member,
-    first: u32,
-    n: u32,
-) -> Wrote
-    requires { ⌜ Safe round (length (now work)) p × Open p ⌝ }
-    requires { ⌜ Buffer round p (d .size) ⌝ }
-    ensures { λ r. ⌜ Fills (Of (now (schema .entry))) round (length (now (work .entry))) p (now (work .entry)) (d .size)
-        (λ S buf. Write.embeddedArray (envOf (now (sheet .entry)) S round) (deeper (now (sheet .entry)) round left S) (defOf (now (schema .entry)) d) (memberOf m) (memberOf x) (rowsFrom first n) buf) r (now (work .exit)) ⌝ }
-{
-    match element_run(sheet, schema, work, round, left, p, d, m, x, first, n) {
-        Ran::Refused(k, t) => Wrote::Refused(k, t),
-        Ran::Dropped(t) => Wrote::Done(t),
-        Ran::Kept(block, t) => embed(work, round, p.top, t, d, m),
-    }
-}
-
-// The n rows from `first` on as elements that x describes.
-fn element_run(
-    sheet: &[u8],
-    schema: &[u8],
-    work: &mut [u8],
-    round: Round,
-    left: usize,
-    p: Progress,
-    d: Def,
-    m: Member,
-    x: Member,
-    first: u32,
-    n: u32,
-) -> Ran
-    requires { ⌜ Safe round (length (now work)) p × Open p ⌝ }
-    ensures { λ r. ⌜ Yields (Of (now (schema .entry))) round (length (now (work .entry))) p (now (work .entry)) 1
-        (λ S. Runs.elementRun (envOf (now (sheet .entry)) S round) (deeper (now (sheet .entry)) round left S) (defOf (now (schema .entry)) d) (memberOf m) (memberOf x) (Kinds.kindOf (x .kind)) (rowsFrom first n)) r (now (work .exit)) ⌝ }
-{
-    if x.kind != 0x0C {
-        return plain_element_run(sheet, schema, work, round, p, d, m, x, first, n);
-    }
-    if x.subtype == 3 {
-        return pointer_run(
-            sheet,
-            schema,
-            work,
-            round,
-            left,
-            p,
-            d,
-            m,
-            x.reference,
-            first,
-            n,
-        );
-    }
-    match look_up(schema, x.reference) {
-        Looked::Missing => stop_run(work, round, p, d, m, 8, x.reference),
-        Looked::At(i) => struct_run(
-            sheet,
-            schema,
-            work,
-            round,
-            left,
-            p,
-            d,
-            m,
-            i,
-            first,
-            n,
-            false,
-        ),
-    }
-}
-
-// Structures by pointer: 8 bytes for each row; what is no Struct leaves them zero.
-fn pointer_run(
-    sheet: &[u8],
-    schema: &[u8],
-    work: &mut [u8],
-    round: Round,
-    left: usize,
-    p: Progress,
-    d: Def,
-    m: Member,
-    reference: u32,
-    first: u32,
-    n: u32,
-) -> Ran
-    requires { ⌜ Safe round (length (now work)) p × Open p ⌝ }
-    ensures { λ r. ⌜ Yields (Of (now (schema .entry))) round (length (now (work .entry))) p (now (work .entry)) 0
-        (λ S. Runs.run (envOf (now (sheet .entry)) S round) 8 12
-        (Runs.pointerElement (envOf (now (sheet .entry)) S round) (deeper (now (sheet .entry)) round left S) (defOf (now (schema .entry)) d) (memberOf m) reference) (rowsFrom first n)) r (now (work .exit)) ⌝ }
-{
-    match pay(round, p, run_cost(8, n)) {
-        Wrote::Refused(k, t) => Ran::Refused(k, t),
-        Wrote::Done(s) => {
-            let mut q = s;
-            let mut k: u32 = 0;
-            while k < n {
-                let at = q.top;
-                let r = (first as usize) + (k as usize);
-                q.top = at + 8;
-                k += 1;
-                let v = read_row(sheet, r);
-                if v.kind != 21 {
-                    continue;
-                }
-                match point_to(sheet, schema, work, round, left, q, d, m, reference, r) {
-                    Pointed::Refused(e, t) => {
-                        return Ran::Refused(e, t);
-                    }
-                    Pointed::Nothing(t) => {
-                        q = t;
-                    }
-                    Pointed::At(x, t) => {
-                        put_pointer(work, at, x);
-                        q = t;
-                    }
-                }
-            }
-            Ran::Kept(12, q)
-        }
-    }
-}
-
-// A run of structures of the definition i, or of a map's pairs.
-fn struct_run(
-    sheet: &[u8],
-    schema: &[u8],
-    work: &mut [u8],
-    round: Round,
-    left: usize,
-    p: Progress,
-    d: Def,
-    m: Member,
-    i: Def,
-    first: u32,
-    n: u32,
-    pairs: bool,
-) -> Ran
-    requires { ⌜ Safe round (length (now work)) p × Open p ⌝ }
-    ensures { λ r. ⌜ Yields (Named (now (schema .entry)) i) round (length (now (work .entry))) p (now (work .entry)) 0
-        (λ S. structRun (envOf (now (sheet .entry)) S round) (deeper (now (sheet .entry)) round left S) (defOf (now (schema .entry)) d) (memberOf m) (defOf (now (schema .entry)) i) (i .name) first n pairs) r (now (work .exit)) ⌝ }
-{
-    match pay(round, p, run_cost(i.size, n)) {
-        Wrote::Refused(k, t) => Ran::Refused(k, t),
-        Wrote::Done(s) => {
-            let mut q = s;
-            let mut k: u32 = 0;
-            while k < n {
-                let r = element_row(first, k, pairs);
-                let t = element_note(sheet, work, round, q, d, m, r, pairs);
-                match write_struct(
-                    sheet,
-                    schema,
-                    work,
-                    round,
-                    left,
-                    t,
-                    i,
-                    element_source(schema, i, r, pairs),
-                ) {
-                    Wrote::Refused(e, u) => {
-                        return Ran::Refused(e, u);
-                    }
-                    Wrote::Done(u) => {
-                        q = u;
-                    }
-                }
-                k += 1;
-            }
-            Ran::Kept(i.name, q)
-        }
-    }
-}
-
-// A map: an empty one still holds 0x01000000.
-fn write_map(
-    sheet: &[u8],
-    schema: &[u8],
-    work: &mut [u8],
-    round: Round,
-    left: usize,
-    p: Progress,
-    d: Def,
-    m: Member,
-    v: Found,
-) -> Wrote
-    requires { ⌜ Safe round (length (now work)) p × Open p ⌝ }
-    requires { ⌜ Buffer round p (d .size) ⌝ }
-    ensures { λ r. ⌜ Fills (Of (now (schema .entry))) round (length (now (work .entry))) p (now (work .entry)) (d .size)
-        (λ S buf. Write.mapMember (envOf (now (sheet .entry)) S round) (deeper (now (sheet .entry)) round left S) (defOf (now (schema .entry)) d) (memberOf m) (valueIs v) buf) r (now (work .exit)) ⌝ }
-{
-    if m.subtype != 1 {
-        return Wrote::Done(say(work, round, p, d, m, 6, m.subtype as u32));
-    }
-    if !fits(d, m, 24) {
-        return Wrote::Done(say(work, round, p, d, m, 1, d.size));
-    }
-    let row = value_row(sheet, v);
-    let kind = row.kind;
-    if (kind != 20) & (kind != 0) {
-        return wrong(work, round, p, d, m, v);
-    }
-    let at = p.top - (d.size as usize) + (m.offset as usize);
-    put_pointer(work, at, 0x01000000);
-    let n = pair_count(row);
-    if n == 0 {
-        return Wrote::Done(p);
-    }
-    write_pairs(sheet, schema, work, round, left, p, d, m, row.a, n)
-}
-
-// A map's pairs, at least one.
-fn write_pairs(
-    sheet: &[u8],
-    schema: &[u8],
-    work: &mut [u8],
-    round: Round,
-    left: usize,
-    p: Progress,
-    d: Def,
-    m: Member,
-    first: u32,
-    n: u32,
-) -> Wrote
-    requires { ⌜ Safe round (length (now work)) p × Open p ⌝ }
-    requires { ⌜ Buffer round p (d .size) × (m .offset + 24 ≤ d .size) × (0 < n) ⌝ }
-    ensures { λ r. ⌜ Fills (Of (now (schema .entry))) round (length (now (work .entry))) p (now (work .entry)) (d .size)
-        (λ S buf. Write.mapOf (envOf (now (sheet .entry)) S round) (deeper (now (sheet .entry)) round left S) (defOf (now (schema .entry)) d) (memberOf m)
-        (Members.referenceAt (defOf (now (schema .entry)) d) (Members.low16 (m .reference))) (Write.pairsOf (rowsFrom first (2 * n))) buf) r (now (work .exit)) ⌝ }
-{
-    let h = reference_at(schema, d, m.reference % 65536);
-    match look_up(schema, h) {
-        Looked::Missing => Wrote::Done(say(work, round, p, d, m, 7, h)),
-        Looked::At(i) => match struct_run(
-            sheet,
-            schema,
-            work,
-            round,
-            left,
-            p,
-            d,
-            m,
-            i,
-            first,
-            n,
-            true,
-        ) {
-            Ran::Refused(k, t) => Wrote::Refused(k, t),
-            Ran::Dropped(t) => Wrote::Done(t),
-            Ran::Kept(block, t) => {
-                let base = p.top;
-                let at = base - (d.size as usize) + (m.offset as usize) + 8;
-                lay_run(work, round, t, block, t.top - base, at, n)
-            }
         },
     }
 }

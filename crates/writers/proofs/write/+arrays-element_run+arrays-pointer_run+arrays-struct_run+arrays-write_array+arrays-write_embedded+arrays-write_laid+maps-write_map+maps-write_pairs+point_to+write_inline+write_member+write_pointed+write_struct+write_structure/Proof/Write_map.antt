@@ -7,9 +7,9 @@ use Rattle.writers.proofs.Pairing.{map-subtype, map-wide, map-wrong, ma
 use denote.Ref.{now}
 use borrow.Author.Needs.{needs}
 use Prim.Native.Nat.{ℕ}
-use Rattle.writers.proofs.write.write_map.Reads as write-map
-use Rattle.writers.proofs.write.+element_run+point_to+pointer_run+struct_run+write_array+write_embedded+write_inline+write_laid+write_map+write_member+write_pairs+write_pointed+write_struct+write_structure.Lts-write_map as write-map-lts
-use Rattle.writers.proofs.write.+element_run+point_to+pointer_run+struct_run+write_array+write_embedded+write_inline+write_laid+write_map+write_member+write_pairs+write_pointed+write_struct+write_structure.Proof.Base.{write-map-at, write-map-calls}
+use Rattle.writers.proofs.write.maps.write_map.Reads as write-map
+use Rattle.writers.proofs.write.+arrays-element_run+arrays-pointer_run+arrays-struct_run+arrays-write_array+arrays-write_embedded+arrays-write_laid+maps-write_map+maps-write_pairs+point_to+write_inline+write_member+write_pointed+write_struct+write_structure.Lts-maps-write_map as write-map-lts
+use Rattle.writers.proofs.write.+arrays-element_run+arrays-pointer_run+arrays-struct_run+arrays-write_array+arrays-write_embedded+arrays-write_laid+maps-write_map+maps-write_pairs+point_to+write_inline+write_member+write_pointed+write_struct+write_structure.Proof.Base.{write-map-at, write-map-calls}
 
 write-map-returns : (t : ℕ) → write-map-lts.Need-returns (write-map-calls t) (write-map-at t) write-map.Post
 write-map-returns t c = map-subtype (now (c .before .before .before .before .before .before .before .before .before .before .args .sheet)) (now (c .before .before .before .before .before .before .before .before .before .before .args .schema)) (c .before .before .before .before .before .before .before .before .before .before .args .round) (c .before .before .before .before .before .before .before .before .before .before .args .left) (c .before .before .before .before .before .before .before .before .before .before .args .p) (now (c .before .before .before .before .before .before .before .before .before .before .args .work)) (c .before .before .before .before .before .before .before .before .before .before .args .d) (c .before .before .before .before .before .before .before .before .before .before .args .m) (c .before .before .before .before .before .before .before .before .before .before .pre .1 .0 .0) (c .before .before .before .before .before .before .before .before .before .before .pre .1 .0 .1) (c .before .before .before .before .before .before .before .before .before .before .args .v) _ _ (c .before .before .before .before .before .if1 .taken) (c .before .before .say .ensures)

@@ -5,9 +5,9 @@ use Rattle.writers.proofs.Pairing.{pairs-missing, pairs-refused, pairs-
 use denote.Ref.{now}
 use borrow.Author.Needs.{needs}
 use Prim.Native.Nat.{ℕ}
-use Rattle.writers.proofs.write.write_pairs.Reads as write-pairs
-use Rattle.writers.proofs.write.+element_run+point_to+pointer_run+struct_run+write_array+write_embedded+write_inline+write_laid+write_map+write_member+write_pairs+write_pointed+write_struct+write_structure.Lts-write_pairs as write-pairs-lts
-use Rattle.writers.proofs.write.+element_run+point_to+pointer_run+struct_run+write_array+write_embedded+write_inline+write_laid+write_map+write_member+write_pairs+write_pointed+write_struct+write_structure.Proof.Base.{write-pairs-at, write-pairs-calls}
+use Rattle.writers.proofs.write.maps.write_pairs.Reads as write-pairs
+use Rattle.writers.proofs.write.+arrays-element_run+arrays-pointer_run+arrays-struct_run+arrays-write_array+arrays-write_embedded+arrays-write_laid+maps-write_map+maps-write_pairs+point_to+write_inline+write_member+write_pointed+write_struct+write_structure.Lts-maps-write_pairs as write-pairs-lts
+use Rattle.writers.proofs.write.+arrays-element_run+arrays-pointer_run+arrays-struct_run+arrays-write_array+arrays-write_embedded+arrays-write_laid+maps-write_map+maps-write_pairs+point_to+write_inline+write_member+write_pointed+write_struct+write_structure.Proof.Base.{write-pairs-at, write-pairs-calls}
 
 write-pairs-reference-at-requires : (t : ℕ) → write-pairs-lts.Need-reference-at-requires (write-pairs-calls t) (write-pairs-at t) write-pairs.Post
 write-pairs-reference-at-requires t c κs = search needs
