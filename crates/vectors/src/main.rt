@@ -129,8 +129,16 @@ fn read_case(row: &[u8]) {
     }
 }
 
-// One case; no line where it has no room here.
-fn one(row: &[u8], work: &mut [u8], out: &mut [u8]) {
+fn within(row: &[u8], work: &mut [u8], w: usize, out: &mut [u8], o: usize)
+    requires { ⌜ w ≤ length (now work) ⌝ }
+    requires { ⌜ o ≤ length (now out) ⌝ }
+{
+    build_case(row, &mut work[..w], &mut out[..o]);
+}
+
+// One case; no answer where it has no room here.
+fn one(number: u64, row: &[u8], work: &mut [u8], out: &mut [u8]) {
+    say(b"case ", number);
     if read_u32(row, 4) == 1 {
         read_case(row);
         return;
@@ -143,7 +151,7 @@ fn one(row: &[u8], work: &mut [u8], out: &mut [u8]) {
     if out.len() < o {
         return;
     }
-    build_case(row, &mut work[..w], &mut out[..o]);
+    within(row, work, w, out, o);
 }
 
 fn cases(all: &[u8], work: &mut [u8], out: &mut [u8]) {
@@ -154,8 +162,7 @@ fn cases(all: &[u8], work: &mut [u8], out: &mut [u8]) {
         if len < 40 {
             return;
         }
-        say(b"case ", number);
-        one(part_to(part_from(all, at), len), work, out);
+        one(number, part_to(part_from(all, at), len), work, out);
         number += 1;
         at += len;
     }
