@@ -1,11 +1,19 @@
 // The writers: a structure leads to its members and a member to further structures, inline, by pointer, in runs and in map pairs.
+use crate::choose::Info;
+use crate::choose::array_info;
+use crate::choose::by_pointer;
+use crate::choose::embed;
+use crate::choose::is_array_value;
 use crate::choose::is_struct_value;
+use crate::choose::item_count;
+use crate::choose::lay_run;
+use crate::choose::least;
 use crate::choose::own_type;
 use crate::source::Source;
 use crate::source::source_of;
 use crate::source::value_of;
-use crate::write::arrays::write_array;
-use crate::write::maps::write_map;
+use crate::write::map::write_map;
+use crate::write::runs::element_run;
 use area::Laid;
 use area::Progress;
 use area::Round;
@@ -14,6 +22,7 @@ use area::stack::shift;
 use area::used::use_struct;
 use members::Def;
 use members::Looked;
+use members::Ran;
 use members::Wrote;
 use members::look_up;
 use members::member::fits;
@@ -21,6 +30,7 @@ use members::member::write_plain;
 use members::member::wrong;
 use members::pay;
 use members::say;
+use members::slots::high_half;
 use members::slots::put_pointer;
 use schema::members::Member;
 use schema::members::read_member;
@@ -29,7 +39,7 @@ use value::read_row;
 use value::value_row;
 ghost use lib.ListN.{length};
 ghost use Rattle.value.specs.Answer.{valueIs};
-ghost use Rattle.value.specs.Rows.{row};
+ghost use Rattle.value.specs.Rows.{row, rowsFrom};
 ghost use Rattle.layout.specs.Kinds;
 ghost use Rattle.layout.specs.Members;
 ghost use Rattle.layout.specs.Runs;
@@ -41,8 +51,8 @@ ghost use Rattle.members.specs.Posts.{Buffer, Fills};
 ghost use Rattle.writers.specs.Sources.{fieldsIs};
 ghost use Rattle.writers.specs.Posts.{Of, Named, deeper, Pushes, Points};
 
-mod arrays;
-mod maps;
+mod map;
+mod runs;
 
 // A structure's pointer; none (remark 4); or a refusal.
 pub enum Pointed {
@@ -266,5 +276,101 @@ fn point_to(
                 Laid::At(x, u) => Pointed::At(x, u),
             },
         },
+    }
+}
+
+// An array, by pointer or inline.
+fn write_array(
+    sheet: &[u8],
+    schema: &[u8],
+    work: &mut [u8],
+    round: Round,
+    left: usize,
+    p: Progress,
+    d: Def,
+    m: Member,
+    v: Found,
+) -> Wrote
+    requires { ⌜ Safe round (length (now work)) p × Open p ⌝ }
+    requires { ⌜ Buffer round p (d .size) ⌝ }
+    ensures { λ r. ⌜ Fills (Of (now (schema .entry))) round (length (now (work .entry))) p (now (work .entry)) (d .size)
+        (λ S buf. Write.arrayMember (envOf (now (sheet .entry)) S round) (deeper (now (sheet .entry)) round left S) (defOf (now (schema .entry)) d) (memberOf m) (valueIs v) buf) r (now (work .exit)) ⌝ }
+{
+    match array_info(schema, d, m) {
+        Info::Missing => Wrote::Done(say(work, round, p, d, m, 5, 0)),
+        Info::At(x) => {
+            let row = value_row(sheet, v);
+            if !is_array_value(sheet, row) {
+                return wrong(work, round, p, d, m, v);
+            }
+            let n = item_count(row);
+            if by_pointer(m.subtype, x.subtype) {
+                return write_laid(sheet, schema, work, round, left, p, d, m, x, row.a, n);
+            }
+            let k = least(n, high_half(m.reference));
+            write_embedded(sheet, schema, work, round, left, p, d, m, x, row.a, k)
+        }
+    }
+}
+
+// An array by pointer; without items it ends here.
+fn write_laid(
+    sheet: &[u8],
+    schema: &[u8],
+    work: &mut [u8],
+    round: Round,
+    left: usize,
+    p: Progress,
+    d: Def,
+    m: Member,
+    x: Member,
+    first: u32,
+    n: u32,
+) -> Wrote
+    requires { ⌜ Safe round (length (now work)) p × Open p ⌝ }
+    requires { ⌜ Buffer round p (d .size) ⌝ }
+    ensures { λ r. ⌜ Fills (Of (now (schema .entry))) round (length (now (work .entry))) p (now (work .entry)) (d .size)
+        (λ S buf. Write.pointedArray (envOf (now (sheet .entry)) S round) (deeper (now (sheet .entry)) round left S) (defOf (now (schema .entry)) d) (memberOf m) (memberOf x) (rowsFrom first n) buf) r (now (work .exit)) ⌝ }
+{
+    if !fits(d, m, 16) {
+        return Wrote::Done(say(work, round, p, d, m, 1, d.size));
+    }
+    if n == 0 {
+        return Wrote::Done(p);
+    }
+    match element_run(sheet, schema, work, round, left, p, d, m, x, first, n) {
+        Ran::Refused(k, t) => Wrote::Refused(k, t),
+        Ran::Dropped(t) => Wrote::Done(t),
+        Ran::Kept(block, t) => {
+            let base = p.top;
+            let at = base - (d.size as usize) + (m.offset as usize);
+            lay_run(work, round, t, block, t.top - base, at, n)
+        }
+    }
+}
+
+// An array inline: first the run with all that it lays, remarks and uses, then does it fit.
+fn write_embedded(
+    sheet: &[u8],
+    schema: &[u8],
+    work: &mut [u8],
+    round: Round,
+    left: usize,
+    p: Progress,
+    d: Def,
+    m: Member,
+    x: Member,
+    first: u32,
+    n: u32,
+) -> Wrote
+    requires { ⌜ Safe round (length (now work)) p × Open p ⌝ }
+    requires { ⌜ Buffer round p (d .size) ⌝ }
+    ensures { λ r. ⌜ Fills (Of (now (schema .entry))) round (length (now (work .entry))) p (now (work .entry)) (d .size)
+        (λ S buf. Write.embeddedArray (envOf (now (sheet .entry)) S round) (deeper (now (sheet .entry)) round left S) (defOf (now (schema .entry)) d) (memberOf m) (memberOf x) (rowsFrom first n) buf) r (now (work .exit)) ⌝ }
+{
+    match element_run(sheet, schema, work, round, left, p, d, m, x, first, n) {
+        Ran::Refused(k, t) => Wrote::Refused(k, t),
+        Ran::Dropped(t) => Wrote::Done(t),
+        Ran::Kept(block, t) => embed(work, round, p.top, t, d, m),
     }
 }

@@ -2,9 +2,9 @@
 use Rattle.writers.proofs.Kindly.{run-plain, run-pointers, run-missing, run-structs}
 use borrow.Author.Needs.{needs}
 use Prim.Native.Nat.{ℕ}
-use Rattle.writers.proofs.write.arrays.element_run.Reads as element-run
-use Rattle.writers.proofs.write.+arrays-element_run+arrays-pointer_run+arrays-struct_run+arrays-write_array+arrays-write_embedded+arrays-write_laid+maps-write_map+maps-write_pairs+point_to+write_inline+write_member+write_pointed+write_struct+write_structure.Lts-arrays-element_run as element-run-lts
-use Rattle.writers.proofs.write.+arrays-element_run+arrays-pointer_run+arrays-struct_run+arrays-write_array+arrays-write_embedded+arrays-write_laid+maps-write_map+maps-write_pairs+point_to+write_inline+write_member+write_pointed+write_struct+write_structure.Proof.Base.{element-run-at, element-run-calls}
+use Rattle.writers.proofs.write.runs.element_run.Reads as element-run
+use Rattle.writers.proofs.write.+map-pairs+map-write_map+point_to+runs-element_run+runs-pointer_run+runs-struct_run+write_array+write_embedded+write_inline+write_laid+write_member+write_pointed+write_struct+write_structure.Lts-runs-element_run as element-run-lts
+use Rattle.writers.proofs.write.+map-pairs+map-write_map+point_to+runs-element_run+runs-pointer_run+runs-struct_run+write_array+write_embedded+write_inline+write_laid+write_member+write_pointed+write_struct+write_structure.Proof.Base.{element-run-at, element-run-calls}
 
 element-run-plain-element-run-requires : (t : ℕ) → element-run-lts.Need-plain-element-run-requires (element-run-calls t) (element-run-at t) element-run.Post
 element-run-plain-element-run-requires t c κs = c .before .before .before .before .before .before .pre .1

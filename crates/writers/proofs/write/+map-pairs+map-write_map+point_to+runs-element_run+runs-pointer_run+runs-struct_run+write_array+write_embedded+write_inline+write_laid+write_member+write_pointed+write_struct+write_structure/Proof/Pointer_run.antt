@@ -10,9 +10,9 @@ use mathlib.Core.Path.{_≡_, refl, sym, ap, _∙_}
 use Prim.Native.Nat.{_-_}
 use borrow.Author.Needs.{needs}
 use Prim.Native.Nat.{ℕ}
-use Rattle.writers.proofs.write.arrays.pointer_run.Reads as pointer-run
-use Rattle.writers.proofs.write.+arrays-element_run+arrays-pointer_run+arrays-struct_run+arrays-write_array+arrays-write_embedded+arrays-write_laid+maps-write_map+maps-write_pairs+point_to+write_inline+write_member+write_pointed+write_struct+write_structure.Lts-arrays-pointer_run as pointer-run-lts
-use Rattle.writers.proofs.write.+arrays-element_run+arrays-pointer_run+arrays-struct_run+arrays-write_array+arrays-write_embedded+arrays-write_laid+maps-write_map+maps-write_pairs+point_to+write_inline+write_member+write_pointed+write_struct+write_structure.Proof.Base.{pointer-run-at, pointer-run-calls}
+use Rattle.writers.proofs.write.runs.pointer_run.Reads as pointer-run
+use Rattle.writers.proofs.write.+map-pairs+map-write_map+point_to+runs-element_run+runs-pointer_run+runs-struct_run+write_array+write_embedded+write_inline+write_laid+write_member+write_pointed+write_struct+write_structure.Lts-runs-pointer_run as pointer-run-lts
+use Rattle.writers.proofs.write.+map-pairs+map-write_map+point_to+runs-element_run+runs-pointer_run+runs-struct_run+write_array+write_embedded+write_inline+write_laid+write_member+write_pointed+write_struct+write_structure.Proof.Base.{pointer-run-at, pointer-run-calls}
 
 abbrev pointer-run-Inv-loop : pointer-run-lts.InvT-loop
 pointer-run-Inv-loop sheet schema work₀ round left d m reference first n q₀ k₀ work q k = (length work ≡ length work₀) × (k ≤ n) × (q₀ .seen + 65536 * (17 + 8 * n) ≤ 65536 * q₀ .charge) × Ready round (length work₀) 8 n q₀ × Pointing schema sheet round (length work₀) left d m reference first n q₀ work₀ q work k

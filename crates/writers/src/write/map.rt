@@ -1,7 +1,7 @@
-// Maps, and the runs of their pairs.
+// Maps: their mark, and the run of their pairs.
 use crate::choose::lay_run;
 use crate::choose::pair_count;
-use crate::write::arrays::struct_run;
+use crate::write::runs::struct_run;
 use area::Progress;
 use area::Round;
 use members::Def;
@@ -63,11 +63,11 @@ pub fn write_map(
     if n == 0 {
         return Wrote::Done(p);
     }
-    write_pairs(sheet, schema, work, round, left, p, d, m, row.a, n)
+    pairs(sheet, schema, work, round, left, p, d, m, row.a, n)
 }
 
 // A map's pairs, at least one.
-fn write_pairs(
+fn pairs(
     sheet: &[u8],
     schema: &[u8],
     work: &mut [u8],

@@ -5,8 +5,8 @@ use mathlib.Core.Path.{refl}
 use borrow.Author.Needs.{needs}
 use Prim.Native.Nat.{ℕ}
 use Rattle.writers.proofs.write.point_to.Reads as point-to
-use Rattle.writers.proofs.write.+arrays-element_run+arrays-pointer_run+arrays-struct_run+arrays-write_array+arrays-write_embedded+arrays-write_laid+maps-write_map+maps-write_pairs+point_to+write_inline+write_member+write_pointed+write_struct+write_structure.Lts-point_to as point-to-lts
-use Rattle.writers.proofs.write.+arrays-element_run+arrays-pointer_run+arrays-struct_run+arrays-write_array+arrays-write_embedded+arrays-write_laid+maps-write_map+maps-write_pairs+point_to+write_inline+write_member+write_pointed+write_struct+write_structure.Proof.Base.{point-to-at, point-to-calls}
+use Rattle.writers.proofs.write.+map-pairs+map-write_map+point_to+runs-element_run+runs-pointer_run+runs-struct_run+write_array+write_embedded+write_inline+write_laid+write_member+write_pointed+write_struct+write_structure.Lts-point_to as point-to-lts
+use Rattle.writers.proofs.write.+map-pairs+map-write_map+point_to+runs-element_run+runs-pointer_run+runs-struct_run+write_array+write_embedded+write_inline+write_laid+write_member+write_pointed+write_struct+write_structure.Proof.Base.{point-to-at, point-to-calls}
 
 point-to-returns : (t : ℕ) → point-to-lts.Need-returns (point-to-calls t) (point-to-at t) point-to.Post
 point-to-returns t c = point-missing _ _ _ _ (c .before .before .before .before .before .before .before .before .before .before .before .args .sheet .now) (c .before .before .before .before .before .before .before .before .before .before .before .args .schema .now) (c .before .before .before .before .before .before .before .before .before .before .before .args .left) (c .before .before .before .before .before .before .before .before .before .before .before .args .d) (c .before .before .before .before .before .before .before .before .before .before .before .args .m) (c .before .before .before .before .before .before .before .before .before .before .before .args .reference) _ _ _ _ _ (c .before .before .before .before .before .before .before .before .before .before .before .pre .1 .0) (c .before .before .before .before .before .before .before .before .before .before .before .pre .1 .1) (c .before .before .before .before .before .before .before .read-row .ensures) (c .before .before .before .before .before .before .own-type .ensures) (c .before .before .before .before .enum-told .given .1) (c .before .before .say .ensures)

@@ -3,8 +3,8 @@ use Rattle.writers.proofs.Kindly.{member-as-structure, member-as-array,
 use borrow.Author.Needs.{needs}
 use Prim.Native.Nat.{ℕ}
 use Rattle.writers.proofs.write.write_member.Reads as write-member
-use Rattle.writers.proofs.write.+arrays-element_run+arrays-pointer_run+arrays-struct_run+arrays-write_array+arrays-write_embedded+arrays-write_laid+maps-write_map+maps-write_pairs+point_to+write_inline+write_member+write_pointed+write_struct+write_structure.Lts-write_member as write-member-lts
-use Rattle.writers.proofs.write.+arrays-element_run+arrays-pointer_run+arrays-struct_run+arrays-write_array+arrays-write_embedded+arrays-write_laid+maps-write_map+maps-write_pairs+point_to+write_inline+write_member+write_pointed+write_struct+write_structure.Proof.Base.{write-member-at, write-member-calls}
+use Rattle.writers.proofs.write.+map-pairs+map-write_map+point_to+runs-element_run+runs-pointer_run+runs-struct_run+write_array+write_embedded+write_inline+write_laid+write_member+write_pointed+write_struct+write_structure.Lts-write_member as write-member-lts
+use Rattle.writers.proofs.write.+map-pairs+map-write_map+point_to+runs-element_run+runs-pointer_run+runs-struct_run+write_array+write_embedded+write_inline+write_laid+write_member+write_pointed+write_struct+write_structure.Proof.Base.{write-member-at, write-member-calls}
 
 write-member-write-plain-requires : (t : ℕ) → write-member-lts.Need-write-plain-requires (write-member-calls t) (write-member-at t) write-member.Post
 write-member-write-plain-requires t c κs = (c .before .before .before .before .before .pre .1 .0, c .before .before .before .before .before .pre .1 .1)

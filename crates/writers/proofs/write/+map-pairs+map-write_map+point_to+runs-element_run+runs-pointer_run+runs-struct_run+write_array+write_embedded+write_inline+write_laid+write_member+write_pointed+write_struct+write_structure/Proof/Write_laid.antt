@@ -7,9 +7,9 @@ use Rattle.writers.proofs.Fillings.{laid-wide, laid-empty, laid-refused
 use denote.Ref.{now}
 use borrow.Author.Needs.{needs}
 use Prim.Native.Nat.{ℕ}
-use Rattle.writers.proofs.write.arrays.write_laid.Reads as write-laid
-use Rattle.writers.proofs.write.+arrays-element_run+arrays-pointer_run+arrays-struct_run+arrays-write_array+arrays-write_embedded+arrays-write_laid+maps-write_map+maps-write_pairs+point_to+write_inline+write_member+write_pointed+write_struct+write_structure.Lts-arrays-write_laid as write-laid-lts
-use Rattle.writers.proofs.write.+arrays-element_run+arrays-pointer_run+arrays-struct_run+arrays-write_array+arrays-write_embedded+arrays-write_laid+maps-write_map+maps-write_pairs+point_to+write_inline+write_member+write_pointed+write_struct+write_structure.Proof.Base.{write-laid-at, write-laid-calls}
+use Rattle.writers.proofs.write.write_laid.Reads as write-laid
+use Rattle.writers.proofs.write.+map-pairs+map-write_map+point_to+runs-element_run+runs-pointer_run+runs-struct_run+write_array+write_embedded+write_inline+write_laid+write_member+write_pointed+write_struct+write_structure.Lts-write_laid as write-laid-lts
+use Rattle.writers.proofs.write.+map-pairs+map-write_map+point_to+runs-element_run+runs-pointer_run+runs-struct_run+write_array+write_embedded+write_inline+write_laid+write_member+write_pointed+write_struct+write_structure.Proof.Base.{write-laid-at, write-laid-calls}
 
 write-laid-returns : (t : ℕ) → write-laid-lts.Need-returns (write-laid-calls t) (write-laid-at t) write-laid.Post
 write-laid-returns t c = laid-wide (now (c .before .before .before .before .before .before .before .before .before .args .sheet)) (now (c .before .before .before .before .before .before .before .before .before .args .schema)) (c .before .before .before .before .before .before .before .before .before .args .round) (c .before .before .before .before .before .before .before .before .before .args .left) (c .before .before .before .before .before .before .before .before .before .args .p) (now (c .before .before .before .before .before .before .before .before .before .args .work)) (c .before .before .before .before .before .before .before .before .before .args .d) (c .before .before .before .before .before .before .before .before .before .args .m) (c .before .before .before .before .before .before .before .before .before .pre .1 .0 .0) (c .before .before .before .before .before .before .before .before .before .pre .1 .0 .1) (c .before .before .before .before .before .before .before .before .before .pre .1 .1) (c .before .before .before .before .before .before .before .before .before .args .x) (c .before .before .before .before .before .before .before .before .before .args .first) (c .before .before .before .before .before .before .before .before .before .args .n) _ (c .before .before .before .before .before .fits2 .ensures) _ _ (c .before .before .before .before .if1 .taken) (c .before .before .say .ensures)

@@ -6,8 +6,8 @@ use borrow.Author.Tests.{leb-true, not-true, not-false}
 use native.Mathlib.Omega.{arith}
 use borrow.Author.Needs.{needs}
 use Rattle.writers.proofs.write.write_pointed.Reads as write-pointed
-use Rattle.writers.proofs.write.+arrays-element_run+arrays-pointer_run+arrays-struct_run+arrays-write_array+arrays-write_embedded+arrays-write_laid+maps-write_map+maps-write_pairs+point_to+write_inline+write_member+write_pointed+write_struct+write_structure.Lts-write_pointed as write-pointed-lts
-use Rattle.writers.proofs.write.+arrays-element_run+arrays-pointer_run+arrays-struct_run+arrays-write_array+arrays-write_embedded+arrays-write_laid+maps-write_map+maps-write_pairs+point_to+write_inline+write_member+write_pointed+write_struct+write_structure.Proof.Base.{write-pointed-at, write-pointed-calls}
+use Rattle.writers.proofs.write.+map-pairs+map-write_map+point_to+runs-element_run+runs-pointer_run+runs-struct_run+write_array+write_embedded+write_inline+write_laid+write_member+write_pointed+write_struct+write_structure.Lts-write_pointed as write-pointed-lts
+use Rattle.writers.proofs.write.+map-pairs+map-write_map+point_to+runs-element_run+runs-pointer_run+runs-struct_run+write_array+write_embedded+write_inline+write_laid+write_member+write_pointed+write_struct+write_structure.Proof.Base.{write-pointed-at, write-pointed-calls}
 
 write-pointed-returns : (t : ℕ) → write-pointed-lts.Need-returns (write-pointed-calls t) (write-pointed-at t) write-pointed.Post
 write-pointed-returns t c = pointed-long _ _ _ _ (c .before .before .before .before .before .before .before .before .before .args .sheet .now) (c .before .before .before .before .before .before .before .before .before .args .schema .now) (c .before .before .before .before .before .before .before .before .before .args .left) (c .before .before .before .before .before .before .before .before .before .args .d) (c .before .before .before .before .before .before .before .before .before .args .m) (c .before .before .before .before .before .before .before .before .before .args .v) _ _ _ (c .before .before .before .before .before .before .before .before .before .pre .1 .0 .0) (c .before .before .before .before .before .before .before .before .before .pre .1 .0 .1) (c .before .before .before .before .before .fits2 .ensures) (not-true _ (c .before .before .before .before .if1 .taken)) (c .before .before .say .ensures)

@@ -2,48 +2,48 @@
 use Prim.Native.Nat.{ℕ, _+_, _*_, _<_}
 use borrow.Fn.Kinds.{In}
 use borrow.Fn.PlainCycle.{Measures, is, falls, and}
-use Rattle.writers.proofs.write.arrays.element_run.Reads as element-run
-use Rattle.writers.proofs.write.arrays.element_run.Kinds as element-run-kinds
-use Rattle.writers.proofs.write.+arrays-element_run+arrays-pointer_run+arrays-struct_run+arrays-write_array+arrays-write_embedded+arrays-write_laid+maps-write_map+maps-write_pairs+point_to+write_inline+write_member+write_pointed+write_struct+write_structure.Lts-arrays-element_run as element-run-lts
+use Rattle.writers.proofs.write.runs.element_run.Reads as element-run
+use Rattle.writers.proofs.write.runs.element_run.Kinds as element-run-kinds
+use Rattle.writers.proofs.write.+map-pairs+map-write_map+point_to+runs-element_run+runs-pointer_run+runs-struct_run+write_array+write_embedded+write_inline+write_laid+write_member+write_pointed+write_struct+write_structure.Lts-runs-element_run as element-run-lts
 use Rattle.writers.proofs.write.point_to.Reads as point-to
 use Rattle.writers.proofs.write.point_to.Kinds as point-to-kinds
-use Rattle.writers.proofs.write.+arrays-element_run+arrays-pointer_run+arrays-struct_run+arrays-write_array+arrays-write_embedded+arrays-write_laid+maps-write_map+maps-write_pairs+point_to+write_inline+write_member+write_pointed+write_struct+write_structure.Lts-point_to as point-to-lts
-use Rattle.writers.proofs.write.arrays.pointer_run.Reads as pointer-run
-use Rattle.writers.proofs.write.arrays.pointer_run.Kinds as pointer-run-kinds
-use Rattle.writers.proofs.write.+arrays-element_run+arrays-pointer_run+arrays-struct_run+arrays-write_array+arrays-write_embedded+arrays-write_laid+maps-write_map+maps-write_pairs+point_to+write_inline+write_member+write_pointed+write_struct+write_structure.Lts-arrays-pointer_run as pointer-run-lts
-use Rattle.writers.proofs.write.arrays.struct_run.Reads as struct-run
-use Rattle.writers.proofs.write.arrays.struct_run.Kinds as struct-run-kinds
-use Rattle.writers.proofs.write.+arrays-element_run+arrays-pointer_run+arrays-struct_run+arrays-write_array+arrays-write_embedded+arrays-write_laid+maps-write_map+maps-write_pairs+point_to+write_inline+write_member+write_pointed+write_struct+write_structure.Lts-arrays-struct_run as struct-run-lts
-use Rattle.writers.proofs.write.arrays.write_array.Reads as write-array
-use Rattle.writers.proofs.write.arrays.write_array.Kinds as write-array-kinds
-use Rattle.writers.proofs.write.+arrays-element_run+arrays-pointer_run+arrays-struct_run+arrays-write_array+arrays-write_embedded+arrays-write_laid+maps-write_map+maps-write_pairs+point_to+write_inline+write_member+write_pointed+write_struct+write_structure.Lts-arrays-write_array as write-array-lts
-use Rattle.writers.proofs.write.arrays.write_embedded.Reads as write-embedded
-use Rattle.writers.proofs.write.arrays.write_embedded.Kinds as write-embedded-kinds
-use Rattle.writers.proofs.write.+arrays-element_run+arrays-pointer_run+arrays-struct_run+arrays-write_array+arrays-write_embedded+arrays-write_laid+maps-write_map+maps-write_pairs+point_to+write_inline+write_member+write_pointed+write_struct+write_structure.Lts-arrays-write_embedded as write-embedded-lts
+use Rattle.writers.proofs.write.+map-pairs+map-write_map+point_to+runs-element_run+runs-pointer_run+runs-struct_run+write_array+write_embedded+write_inline+write_laid+write_member+write_pointed+write_struct+write_structure.Lts-point_to as point-to-lts
+use Rattle.writers.proofs.write.runs.pointer_run.Reads as pointer-run
+use Rattle.writers.proofs.write.runs.pointer_run.Kinds as pointer-run-kinds
+use Rattle.writers.proofs.write.+map-pairs+map-write_map+point_to+runs-element_run+runs-pointer_run+runs-struct_run+write_array+write_embedded+write_inline+write_laid+write_member+write_pointed+write_struct+write_structure.Lts-runs-pointer_run as pointer-run-lts
+use Rattle.writers.proofs.write.runs.struct_run.Reads as struct-run
+use Rattle.writers.proofs.write.runs.struct_run.Kinds as struct-run-kinds
+use Rattle.writers.proofs.write.+map-pairs+map-write_map+point_to+runs-element_run+runs-pointer_run+runs-struct_run+write_array+write_embedded+write_inline+write_laid+write_member+write_pointed+write_struct+write_structure.Lts-runs-struct_run as struct-run-lts
+use Rattle.writers.proofs.write.write_array.Reads as write-array
+use Rattle.writers.proofs.write.write_array.Kinds as write-array-kinds
+use Rattle.writers.proofs.write.+map-pairs+map-write_map+point_to+runs-element_run+runs-pointer_run+runs-struct_run+write_array+write_embedded+write_inline+write_laid+write_member+write_pointed+write_struct+write_structure.Lts-write_array as write-array-lts
+use Rattle.writers.proofs.write.write_embedded.Reads as write-embedded
+use Rattle.writers.proofs.write.write_embedded.Kinds as write-embedded-kinds
+use Rattle.writers.proofs.write.+map-pairs+map-write_map+point_to+runs-element_run+runs-pointer_run+runs-struct_run+write_array+write_embedded+write_inline+write_laid+write_member+write_pointed+write_struct+write_structure.Lts-write_embedded as write-embedded-lts
 use Rattle.writers.proofs.write.write_inline.Reads as write-inline
 use Rattle.writers.proofs.write.write_inline.Kinds as write-inline-kinds
-use Rattle.writers.proofs.write.+arrays-element_run+arrays-pointer_run+arrays-struct_run+arrays-write_array+arrays-write_embedded+arrays-write_laid+maps-write_map+maps-write_pairs+point_to+write_inline+write_member+write_pointed+write_struct+write_structure.Lts-write_inline as write-inline-lts
-use Rattle.writers.proofs.write.arrays.write_laid.Reads as write-laid
-use Rattle.writers.proofs.write.arrays.write_laid.Kinds as write-laid-kinds
-use Rattle.writers.proofs.write.+arrays-element_run+arrays-pointer_run+arrays-struct_run+arrays-write_array+arrays-write_embedded+arrays-write_laid+maps-write_map+maps-write_pairs+point_to+write_inline+write_member+write_pointed+write_struct+write_structure.Lts-arrays-write_laid as write-laid-lts
-use Rattle.writers.proofs.write.maps.write_map.Reads as write-map
-use Rattle.writers.proofs.write.maps.write_map.Kinds as write-map-kinds
-use Rattle.writers.proofs.write.+arrays-element_run+arrays-pointer_run+arrays-struct_run+arrays-write_array+arrays-write_embedded+arrays-write_laid+maps-write_map+maps-write_pairs+point_to+write_inline+write_member+write_pointed+write_struct+write_structure.Lts-maps-write_map as write-map-lts
+use Rattle.writers.proofs.write.+map-pairs+map-write_map+point_to+runs-element_run+runs-pointer_run+runs-struct_run+write_array+write_embedded+write_inline+write_laid+write_member+write_pointed+write_struct+write_structure.Lts-write_inline as write-inline-lts
+use Rattle.writers.proofs.write.write_laid.Reads as write-laid
+use Rattle.writers.proofs.write.write_laid.Kinds as write-laid-kinds
+use Rattle.writers.proofs.write.+map-pairs+map-write_map+point_to+runs-element_run+runs-pointer_run+runs-struct_run+write_array+write_embedded+write_inline+write_laid+write_member+write_pointed+write_struct+write_structure.Lts-write_laid as write-laid-lts
+use Rattle.writers.proofs.write.map.write_map.Reads as write-map
+use Rattle.writers.proofs.write.map.write_map.Kinds as write-map-kinds
+use Rattle.writers.proofs.write.+map-pairs+map-write_map+point_to+runs-element_run+runs-pointer_run+runs-struct_run+write_array+write_embedded+write_inline+write_laid+write_member+write_pointed+write_struct+write_structure.Lts-map-write_map as write-map-lts
 use Rattle.writers.proofs.write.write_member.Reads as write-member
 use Rattle.writers.proofs.write.write_member.Kinds as write-member-kinds
-use Rattle.writers.proofs.write.+arrays-element_run+arrays-pointer_run+arrays-struct_run+arrays-write_array+arrays-write_embedded+arrays-write_laid+maps-write_map+maps-write_pairs+point_to+write_inline+write_member+write_pointed+write_struct+write_structure.Lts-write_member as write-member-lts
-use Rattle.writers.proofs.write.maps.write_pairs.Reads as write-pairs
-use Rattle.writers.proofs.write.maps.write_pairs.Kinds as write-pairs-kinds
-use Rattle.writers.proofs.write.+arrays-element_run+arrays-pointer_run+arrays-struct_run+arrays-write_array+arrays-write_embedded+arrays-write_laid+maps-write_map+maps-write_pairs+point_to+write_inline+write_member+write_pointed+write_struct+write_structure.Lts-maps-write_pairs as write-pairs-lts
+use Rattle.writers.proofs.write.+map-pairs+map-write_map+point_to+runs-element_run+runs-pointer_run+runs-struct_run+write_array+write_embedded+write_inline+write_laid+write_member+write_pointed+write_struct+write_structure.Lts-write_member as write-member-lts
+use Rattle.writers.proofs.write.map.pairs.Reads as pairs
+use Rattle.writers.proofs.write.map.pairs.Kinds as pairs-kinds
+use Rattle.writers.proofs.write.+map-pairs+map-write_map+point_to+runs-element_run+runs-pointer_run+runs-struct_run+write_array+write_embedded+write_inline+write_laid+write_member+write_pointed+write_struct+write_structure.Lts-map-pairs as pairs-lts
 use Rattle.writers.proofs.write.write_pointed.Reads as write-pointed
 use Rattle.writers.proofs.write.write_pointed.Kinds as write-pointed-kinds
-use Rattle.writers.proofs.write.+arrays-element_run+arrays-pointer_run+arrays-struct_run+arrays-write_array+arrays-write_embedded+arrays-write_laid+maps-write_map+maps-write_pairs+point_to+write_inline+write_member+write_pointed+write_struct+write_structure.Lts-write_pointed as write-pointed-lts
+use Rattle.writers.proofs.write.+map-pairs+map-write_map+point_to+runs-element_run+runs-pointer_run+runs-struct_run+write_array+write_embedded+write_inline+write_laid+write_member+write_pointed+write_struct+write_structure.Lts-write_pointed as write-pointed-lts
 use Rattle.writers.proofs.write.write_struct.Reads as write-struct
 use Rattle.writers.proofs.write.write_struct.Kinds as write-struct-kinds
-use Rattle.writers.proofs.write.+arrays-element_run+arrays-pointer_run+arrays-struct_run+arrays-write_array+arrays-write_embedded+arrays-write_laid+maps-write_map+maps-write_pairs+point_to+write_inline+write_member+write_pointed+write_struct+write_structure.Lts-write_struct as write-struct-lts
+use Rattle.writers.proofs.write.+map-pairs+map-write_map+point_to+runs-element_run+runs-pointer_run+runs-struct_run+write_array+write_embedded+write_inline+write_laid+write_member+write_pointed+write_struct+write_structure.Lts-write_struct as write-struct-lts
 use Rattle.writers.proofs.write.write_structure.Reads as write-structure
 use Rattle.writers.proofs.write.write_structure.Kinds as write-structure-kinds
-use Rattle.writers.proofs.write.+arrays-element_run+arrays-pointer_run+arrays-struct_run+arrays-write_array+arrays-write_embedded+arrays-write_laid+maps-write_map+maps-write_pairs+point_to+write_inline+write_member+write_pointed+write_struct+write_structure.Lts-write_structure as write-structure-lts
+use Rattle.writers.proofs.write.+map-pairs+map-write_map+point_to+runs-element_run+runs-pointer_run+runs-struct_run+write_array+write_embedded+write_inline+write_laid+write_member+write_pointed+write_struct+write_structure.Lts-write_structure as write-structure-lts
 use Rattle.area.proofs.items.lay.Reads as lay-reads
 use Rattle.area.proofs.stack.shift.Reads as shift-reads
 use Rattle.area.proofs.used.use_struct.Reads as use-struct-reads
@@ -108,8 +108,8 @@ abbrev pub μ-write-map : Measures 3 write-map-kinds.ps ℕ
 abbrev pub μ-write-member : Measures 3 write-member-kinds.ps ℕ
 μ-write-member κs a = 16 * a .1 .1 .1 .1 .0 + 6
 
-abbrev pub μ-write-pairs : Measures 3 write-pairs-kinds.ps ℕ
-μ-write-pairs κs a = 16 * a .1 .1 .1 .1 .0 + 4
+abbrev pub μ-pairs : Measures 3 pairs-kinds.ps ℕ
+μ-pairs κs a = 16 * a .1 .1 .1 .1 .0 + 4
 
 abbrev pub μ-write-pointed : Measures 3 write-pointed-kinds.ps ℕ
 μ-write-pointed κs a = 16 * a .1 .1 .1 .1 .0 + 4
@@ -214,13 +214,13 @@ write-member-below t =
     (falls 3 write-member-kinds.ps _<_ μ-write-member t)
     write-member.Pre
 
-abbrev pub write-pairs-at : ℕ → In 3 write-pairs-kinds.ps
-write-pairs-at t =
-    and 3 write-pairs-kinds.ps (is 3 write-pairs-kinds.ps μ-write-pairs t) write-pairs.Pre
+abbrev pub pairs-at : ℕ → In 3 pairs-kinds.ps
+pairs-at t =
+    and 3 pairs-kinds.ps (is 3 pairs-kinds.ps μ-pairs t) pairs.Pre
 
-abbrev pub write-pairs-below : ℕ → In 3 write-pairs-kinds.ps
-write-pairs-below t =
-    and 3 write-pairs-kinds.ps (falls 3 write-pairs-kinds.ps _<_ μ-write-pairs t) write-pairs.Pre
+abbrev pub pairs-below : ℕ → In 3 pairs-kinds.ps
+pairs-below t =
+    and 3 pairs-kinds.ps (falls 3 pairs-kinds.ps _<_ μ-pairs t) pairs.Pre
 
 abbrev pub write-pointed-at : ℕ → In 3 write-pointed-kinds.ps
 write-pointed-at t =
@@ -287,13 +287,13 @@ abbrev pub write-laid-calls : ℕ → write-laid-lts.Claims
 write-laid-calls t = (fits-reads.Asked, fits-reads.Learnt, say-reads.Asked, say-reads.Learnt, element-run-below t, element-run.Post, lay-run-reads.Asked, lay-run-reads.Learnt)
 
 abbrev pub write-map-calls : ℕ → write-map-lts.Claims
-write-map-calls t = (say-reads.Asked, say-reads.Learnt, fits-reads.Asked, fits-reads.Learnt, value-row-reads.Asked, value-row-reads.Learnt, wrong-reads.Asked, wrong-reads.Learnt, put-pointer-reads.Asked, put-pointer-reads.Learnt, pair-count-reads.Asked, pair-count-reads.Learnt, write-pairs-below t, write-pairs.Post)
+write-map-calls t = (say-reads.Asked, say-reads.Learnt, fits-reads.Asked, fits-reads.Learnt, value-row-reads.Asked, value-row-reads.Learnt, wrong-reads.Asked, wrong-reads.Learnt, put-pointer-reads.Asked, put-pointer-reads.Learnt, pair-count-reads.Asked, pair-count-reads.Learnt, pairs-below t, pairs.Post)
 
 abbrev pub write-member-calls : ℕ → write-member-lts.Claims
 write-member-calls t = (write-structure-below t, write-structure.Post, write-array-below t, write-array.Post, write-map-below t, write-map.Post, write-plain-reads.Asked, write-plain-reads.Learnt)
 
-abbrev pub write-pairs-calls : ℕ → write-pairs-lts.Claims
-write-pairs-calls t = (reference-at-reads.Asked, reference-at-reads.Learnt, look-up-reads.Asked, look-up-reads.Learnt, say-reads.Asked, say-reads.Learnt, struct-run-below t, struct-run.Post, lay-run-reads.Asked, lay-run-reads.Learnt)
+abbrev pub pairs-calls : ℕ → pairs-lts.Claims
+pairs-calls t = (reference-at-reads.Asked, reference-at-reads.Learnt, look-up-reads.Asked, look-up-reads.Learnt, say-reads.Asked, say-reads.Learnt, struct-run-below t, struct-run.Post, lay-run-reads.Asked, lay-run-reads.Learnt)
 
 abbrev pub write-pointed-calls : ℕ → write-pointed-lts.Claims
 write-pointed-calls t = (fits-reads.Asked, fits-reads.Learnt, say-reads.Asked, say-reads.Learnt, read-row-reads.Asked, read-row-reads.Learnt, point-to-below t, point-to.Post, put-pointer-reads.Asked, put-pointer-reads.Learnt)

@@ -1,12 +1,4 @@
-// Arrays: by pointer and inline, and the runs of their elements.
-use crate::choose::Info;
-use crate::choose::array_info;
-use crate::choose::by_pointer;
-use crate::choose::embed;
-use crate::choose::is_array_value;
-use crate::choose::item_count;
-use crate::choose::lay_run;
-use crate::choose::least;
+// Runs of an array's elements and of a map's pairs: they grow on top of the stack.
 use crate::elements::element_note;
 use crate::elements::element_row;
 use crate::elements::element_source;
@@ -20,129 +12,25 @@ use members::Looked;
 use members::Ran;
 use members::Wrote;
 use members::look_up;
-use members::member::fits;
-use members::member::wrong;
 use members::pay;
 use members::runs::plain_element_run;
 use members::runs::run_cost;
 use members::runs::stop_run;
-use members::say;
-use members::slots::high_half;
 use members::slots::put_pointer;
 use schema::members::Member;
-use value::Found;
 use value::read_row;
-use value::value_row;
 ghost use lib.ListN.{length};
-ghost use Rattle.value.specs.Answer.{valueIs};
 ghost use Rattle.value.specs.Rows.{rowsFrom};
 ghost use Rattle.layout.specs.Kinds;
 ghost use Rattle.layout.specs.Runs;
-ghost use Rattle.layout.specs.Write;
 ghost use Rattle.area.specs.Area.{envOf};
 ghost use Rattle.area.specs.Posts.{Safe, Open};
 ghost use Rattle.members.specs.Names.{defOf, memberOf};
-ghost use Rattle.members.specs.Posts.{Buffer, Fills, Yields};
+ghost use Rattle.members.specs.Posts.{Yields};
 ghost use Rattle.writers.specs.Posts.{Of, Named, deeper, structRun};
 
-// An array, by pointer or inline.
-pub fn write_array(
-    sheet: &[u8],
-    schema: &[u8],
-    work: &mut [u8],
-    round: Round,
-    left: usize,
-    p: Progress,
-    d: Def,
-    m: Member,
-    v: Found,
-) -> Wrote
-    requires { ⌜ Safe round (length (now work)) p × Open p ⌝ }
-    requires { ⌜ Buffer round p (d .size) ⌝ }
-    ensures { λ r. ⌜ Fills (Of (now (schema .entry))) round (length (now (work .entry))) p (now (work .entry)) (d .size)
-        (λ S buf. Write.arrayMember (envOf (now (sheet .entry)) S round) (deeper (now (sheet .entry)) round left S) (defOf (now (schema .entry)) d) (memberOf m) (valueIs v) buf) r (now (work .exit)) ⌝ }
-{
-    match array_info(schema, d, m) {
-        Info::Missing => Wrote::Done(say(work, round, p, d, m, 5, 0)),
-        Info::At(x) => {
-            let row = value_row(sheet, v);
-            if !is_array_value(sheet, row) {
-                return wrong(work, round, p, d, m, v);
-            }
-            let n = item_count(row);
-            if by_pointer(m.subtype, x.subtype) {
-                return write_laid(sheet, schema, work, round, left, p, d, m, x, row.a, n);
-            }
-            let k = least(n, high_half(m.reference));
-            write_embedded(sheet, schema, work, round, left, p, d, m, x, row.a, k)
-        }
-    }
-}
-
-// An array by pointer; without items it ends here.
-fn write_laid(
-    sheet: &[u8],
-    schema: &[u8],
-    work: &mut [u8],
-    round: Round,
-    left: usize,
-    p: Progress,
-    d: Def,
-    m: Member,
-    x: Member,
-    first: u32,
-    n: u32,
-) -> Wrote
-    requires { ⌜ Safe round (length (now work)) p × Open p ⌝ }
-    requires { ⌜ Buffer round p (d .size) ⌝ }
-    ensures { λ r. ⌜ Fills (Of (now (schema .entry))) round (length (now (work .entry))) p (now (work .entry)) (d .size)
-        (λ S buf. Write.pointedArray (envOf (now (sheet .entry)) S round) (deeper (now (sheet .entry)) round left S) (defOf (now (schema .entry)) d) (memberOf m) (memberOf x) (rowsFrom first n) buf) r (now (work .exit)) ⌝ }
-{
-    if !fits(d, m, 16) {
-        return Wrote::Done(say(work, round, p, d, m, 1, d.size));
-    }
-    if n == 0 {
-        return Wrote::Done(p);
-    }
-    match element_run(sheet, schema, work, round, left, p, d, m, x, first, n) {
-        Ran::Refused(k, t) => Wrote::Refused(k, t),
-        Ran::Dropped(t) => Wrote::Done(t),
-        Ran::Kept(block, t) => {
-            let base = p.top;
-            let at = base - (d.size as usize) + (m.offset as usize);
-            lay_run(work, round, t, block, t.top - base, at, n)
-        }
-    }
-}
-
-// An array inline: first the run with all that it lays, remarks and uses, then does it fit.
-fn write_embedded(
-    sheet: &[u8],
-    schema: &[u8],
-    work: &mut [u8],
-    round: Round,
-    left: usize,
-    p: Progress,
-    d: Def,
-    m: Member,
-    x: Member,
-    first: u32,
-    n: u32,
-) -> Wrote
-    requires { ⌜ Safe round (length (now work)) p × Open p ⌝ }
-    requires { ⌜ Buffer round p (d .size) ⌝ }
-    ensures { λ r. ⌜ Fills (Of (now (schema .entry))) round (length (now (work .entry))) p (now (work .entry)) (d .size)
-        (λ S buf. Write.embeddedArray (envOf (now (sheet .entry)) S round) (deeper (now (sheet .entry)) round left S) (defOf (now (schema .entry)) d) (memberOf m) (memberOf x) (rowsFrom first n) buf) r (now (work .exit)) ⌝ }
-{
-    match element_run(sheet, schema, work, round, left, p, d, m, x, first, n) {
-        Ran::Refused(k, t) => Wrote::Refused(k, t),
-        Ran::Dropped(t) => Wrote::Done(t),
-        Ran::Kept(block, t) => embed(work, round, p.top, t, d, m),
-    }
-}
-
 // The n rows from `first` on as elements that x describes.
-fn element_run(
+pub fn element_run(
     sheet: &[u8],
     schema: &[u8],
     work: &mut [u8],

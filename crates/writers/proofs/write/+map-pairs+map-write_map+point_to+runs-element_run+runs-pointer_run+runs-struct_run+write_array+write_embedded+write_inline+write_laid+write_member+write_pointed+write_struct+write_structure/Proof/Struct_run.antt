@@ -11,9 +11,9 @@ use mathlib.Core.Path.{_≡_, refl, _∙_}
 use Prim.Native.Nat.{_-_}
 use borrow.Author.Needs.{needs}
 use Prim.Native.Nat.{ℕ}
-use Rattle.writers.proofs.write.arrays.struct_run.Reads as struct-run
-use Rattle.writers.proofs.write.+arrays-element_run+arrays-pointer_run+arrays-struct_run+arrays-write_array+arrays-write_embedded+arrays-write_laid+maps-write_map+maps-write_pairs+point_to+write_inline+write_member+write_pointed+write_struct+write_structure.Lts-arrays-struct_run as struct-run-lts
-use Rattle.writers.proofs.write.+arrays-element_run+arrays-pointer_run+arrays-struct_run+arrays-write_array+arrays-write_embedded+arrays-write_laid+maps-write_map+maps-write_pairs+point_to+write_inline+write_member+write_pointed+write_struct+write_structure.Proof.Base.{struct-run-at, struct-run-calls}
+use Rattle.writers.proofs.write.runs.struct_run.Reads as struct-run
+use Rattle.writers.proofs.write.+map-pairs+map-write_map+point_to+runs-element_run+runs-pointer_run+runs-struct_run+write_array+write_embedded+write_inline+write_laid+write_member+write_pointed+write_struct+write_structure.Lts-runs-struct_run as struct-run-lts
+use Rattle.writers.proofs.write.+map-pairs+map-write_map+point_to+runs-element_run+runs-pointer_run+runs-struct_run+write_array+write_embedded+write_inline+write_laid+write_member+write_pointed+write_struct+write_structure.Proof.Base.{struct-run-at, struct-run-calls}
 
 abbrev struct-run-Inv-loop : struct-run-lts.InvT-loop
 struct-run-Inv-loop sheet schema work₀ round left d m i first n pairs q₀ k₀ work q k = (length work ≡ length work₀) × (k ≤ n) × (q₀ .seen + 65536 * 16 ≤ 65536 * q₀ .charge) × StructRunning schema sheet round (length work₀) left d m i pairs first n q₀ work₀ q work k

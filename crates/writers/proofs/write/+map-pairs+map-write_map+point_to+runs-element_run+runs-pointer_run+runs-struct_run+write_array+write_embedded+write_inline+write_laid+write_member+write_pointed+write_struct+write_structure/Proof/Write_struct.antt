@@ -13,8 +13,8 @@ use Prim.Native.Nat.{_-_}
 use borrow.Author.Needs.{needs}
 use Prim.Native.Nat.{ℕ}
 use Rattle.writers.proofs.write.write_struct.Reads as write-struct
-use Rattle.writers.proofs.write.+arrays-element_run+arrays-pointer_run+arrays-struct_run+arrays-write_array+arrays-write_embedded+arrays-write_laid+maps-write_map+maps-write_pairs+point_to+write_inline+write_member+write_pointed+write_struct+write_structure.Lts-write_struct as write-struct-lts
-use Rattle.writers.proofs.write.+arrays-element_run+arrays-pointer_run+arrays-struct_run+arrays-write_array+arrays-write_embedded+arrays-write_laid+maps-write_map+maps-write_pairs+point_to+write_inline+write_member+write_pointed+write_struct+write_structure.Proof.Base.{write-struct-at, write-struct-calls}
+use Rattle.writers.proofs.write.+map-pairs+map-write_map+point_to+runs-element_run+runs-pointer_run+runs-struct_run+write_array+write_embedded+write_inline+write_laid+write_member+write_pointed+write_struct+write_structure.Lts-write_struct as write-struct-lts
+use Rattle.writers.proofs.write.+map-pairs+map-write_map+point_to+runs-element_run+runs-pointer_run+runs-struct_run+write_array+write_embedded+write_inline+write_laid+write_member+write_pointed+write_struct+write_structure.Proof.Base.{write-struct-at, write-struct-calls}
 
 abbrev write-struct-Inv-loop : write-struct-lts.InvT-loop
 write-struct-Inv-loop sheet schema work₀ round left d from size q₀ n k₀ work q k = (length work ≡ length work₀) × (n ≡ d .count) × (size ≡ d .size) × Writing schema sheet round (length work₀) (left - 1) d (fieldsIs sheet from) q₀ work₀ q work k
