@@ -105,7 +105,14 @@ pub fn agrees(
 }
 
 // Whether a file has the recorded reading.
-pub fn is_reading(row: &[u8], code: u32, root: u32, place: usize, len: usize, blocks: usize) -> bool {
+pub fn is_reading(
+    row: &[u8],
+    code: u32,
+    root: u32,
+    place: usize,
+    len: usize,
+    blocks: usize,
+) -> bool {
     let a = (code == read_u32(row, 12)) & (root == read_u32(row, 16));
     let b = (place == read_u32(row, 20) as usize) & (len == read_u32(row, 24) as usize);
     a & b & (blocks == read_u32(row, 28) as usize)

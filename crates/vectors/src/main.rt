@@ -90,7 +90,12 @@ fn read_line(code: u32, root: u32, place: usize, len: usize, blocks: usize, same
 fn answer(row: &[u8], work: &[u8], out: &[u8], n: usize, b: Built, list: [Remark; 64]) {
     match b {
         Built::File(len, count) => {
-            built_line(0, len, count, agrees(row, work, out, n, 0, len, count, list));
+            built_line(
+                0,
+                len,
+                count,
+                agrees(row, work, out, n, 0, len, count, list),
+            );
         }
         Built::Refused(code) => {
             built_line(code, 0, 0, agrees(row, work, out, n, code, 0, 0, list));
@@ -120,8 +125,20 @@ fn build_case(row: &[u8], work: &mut [u8], out: &mut [u8]) {
 fn read_case(row: &[u8]) {
     let file = part_to(part_from(row, 40), read_u32(row, 8) as usize);
     match parse_pso(file) {
-        Parsed::Pso { root, place, len, blocks } => {
-            read_line(0, root, place, len, blocks, is_reading(row, 0, root, place, len, blocks));
+        Parsed::Pso {
+            root,
+            place,
+            len,
+            blocks,
+        } => {
+            read_line(
+                0,
+                root,
+                place,
+                len,
+                blocks,
+                is_reading(row, 0, root, place, len, blocks),
+            );
         }
         Parsed::Refused(code) => {
             read_line(code, 0, 0, 0, 0, is_reading(row, code, 0, 0, 0, 0));

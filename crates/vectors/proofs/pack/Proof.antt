@@ -188,7 +188,7 @@ module _ {M : Type 1} (𝓤 : URA M) (H : Heap 𝓤) (A : Atoms 𝓤) (W : Given
       qed W ((‵ (flft κ₀ q₀) ⊛ (‵ (flft κ₁ q₁) ⊛ (‵ (flft κ₂ q₂) ⊛ (‵ (flft κ₃ q₃) ⊛ ‵ (flft (ν ∷ []) fullShare))))) ∷ (‵ (Src₀) ⊛ (‵ (Src₁) ⊛ (‵ (Wrk) ⊛ (‵ (Out) ⊛ ‵ (Lst l ν γ))))) ∷ []) ∵ split ! $ move ! (1 ∷ []) $ split ! $ move ! (1 ∷ []) $ split ! $ move ! (1 ∷ []) $ split ! $ move ! (5 ∷ []) $ split ! $ move ! (1 ∷ []) $ split ! $ move ! (1 ∷ []) $ split ! $ move ! (1 ∷ []) $ split ! $
       nothing ! $ move ! (7 ∷ 0 ∷ []) $ join ! $ move ! (6 ∷ 0 ∷ []) $ join ! $ move ! (6 ∷ 0 ∷ []) $ join ! $ move ! (6 ∷ 0 ∷ []) $ join ! $ move ! (6 ∷ 0 ∷ []) $ join ! $
       nothing ! $ move ! (3 ∷ 0 ∷ []) $ fjoin ! $ move ! (2 ∷ 0 ∷ []) $ fjoin ! $ move ! (2 ∷ 0 ∷ []) $ fjoin ! $ move ! (2 ∷ 0 ∷ []) $ fjoin ! $ move ! (2 ∷ 0 ∷ []) $ fjoin ! $
-      move ! (1 ∷ 0 ∷ []) $ join ! $ frame ! $ done ! 
+      move ! (1 ∷ 0 ∷ []) $ join ! $ frame ! $ done !
 
   asks-keep : (r : Built) (w : Val) (zs : List Remark) (v : Val) → ent 𝓤 (sep 𝓤 (sem 𝓤 H A (O.the-row .own r (w ∷ []))) (sem 𝓤 H A (Records .own zs (v ∷ [])))) (Keep 𝓤 H A mem run .pre (to-keep r w zs v))
   asks-keep r w zs v =
@@ -212,7 +212,7 @@ module _ {M : Type 1} (𝓤 : URA M) (H : Heap 𝓤) (A : Atoms 𝓤) (W : Given
       split ! $ move ! (1 ∷ []) $ split ! $ move ! (1 ∷ []) $ split ! $ move ! (4 ∷ []) $ split ! $ move ! (1 ∷ []) $ split ! $ move ! (1 ∷ []) $ split ! $
       nothing ! $ move ! (6 ∷ 0 ∷ []) $ join ! $ move ! (5 ∷ 0 ∷ []) $ join ! $ move ! (5 ∷ 0 ∷ []) $ join ! $ move ! (5 ∷ 0 ∷ []) $ join ! $ frame ! $
       nothing ! $ nothing ! $ nothing ! $ move ! (1 ∷ 2 ∷ []) $ fjoin ! $ move ! (1 ∷ 0 ∷ []) $ fjoin ! $ move ! (2 ∷ 0 ∷ []) $ fjoin ! $ move ! (1 ∷ 0 ∷ []) $ fjoin ! $ move ! (1 ∷ 0 ∷ []) $ fjoin ! $ move ! (1 ∷ 0 ∷ []) $ fjoin ! $ frame ! $
-      owned ! P.the-row (Is P.the-row) (LL.makes P.the-type P′.the-plain 𝓤 H A) r _ is $ done ! 
+      owned ! P.the-row (Is P.the-row) (LL.makes P.the-type P′.the-plain 𝓤 H A) r _ is $ done !
 
   module _ (C : Calls 𝓤 H) (Λ : Loops 𝓤 H) (fm : FmC 𝓤 H (W .laws) C) (on-build : Triple 𝓤 (C #build) (Build 𝓤 H A mem run)) (on-keep : Triple 𝓤 (C #keep) (Keep 𝓤 H A mem run)) where
     walk : Room u8 (length (v₀ .now)) → Room u8 (length (v₁ .now)) → Room u8 L → Room u8 (length os) → n < 2 ^ 64 → Is Records xs (av ∷ []) → n ≤ 64
@@ -254,7 +254,7 @@ module _ {M : Type 1} (𝓤 : URA M) (H : Heap 𝓤) (A : Atoms 𝓤) (W : Given
         land ! (from ! (stop !)) (init ! 45 refl (LL.lawful P.the-type P′.the-laws 𝓤 H A W .typed k _ is₂ .0)) $
         returns ! (look ! 45 refl) $ forget ! 16 refl $ forget ! 18 refl $ forget ! 20 refl $ forget ! 22 refl $ forget ! 24 refl $ forget ! 26 refl $ forget ! 28 refl $ forget ! 30 refl $ forget ! 2 refl $ forget ! 33 refl $ forget ! 35 refl $ forget ! 37 refl $ forget ! 39 refl $ forget ! 41 refl $ forget ! 43 refl $ forget ! 45 refl $
         move ! (45 ∷ 46 ∷ []) $ free1 ! $ move ! (43 ∷ 44 ∷ []) $ free1 ! $ move ! (41 ∷ 42 ∷ []) $ free1 ! $ move ! (39 ∷ 40 ∷ []) $ free1 ! $ move ! (37 ∷ 38 ∷ []) $ free1 ! $ move ! (35 ∷ 36 ∷ []) $ free1 ! $ move ! (33 ∷ 34 ∷ []) $ free1 ! $ move ! (2 ∷ 32 ∷ []) $ free1 ! $ move ! (29 ∷ 30 ∷ []) $ free1 ! $ move ! (27 ∷ 28 ∷ []) $ free1 ! $ move ! (25 ∷ 26 ∷ []) $ free1 ! $ move ! (23 ∷ 24 ∷ []) $ free1 ! $ move ! (21 ∷ 22 ∷ []) $ free1 ! $ move ! (19 ∷ 20 ∷ []) $ free1 ! $ move ! (17 ∷ 18 ∷ []) $ free1 ! $ move ! (15 ∷ 16 ∷ []) $ free1 ! $ free0 ! $
-        move ! (4 ∷ 3 ∷ []) $ join ! $ move ! (4 ∷ 0 ∷ []) $ join ! $ move ! (4 ∷ 0 ∷ []) $ join ! $ move ! (6 ∷ 5 ∷ []) $ join ! $ move ! (6 ∷ 0 ∷ []) $ join ! $ move ! (6 ∷ 0 ∷ []) $ join ! $ keep ! (1 ∷ 0 ∷ []) $ by ! (exits k w₂ (us .1 .1 .1 .0) (us .1 .1 .0) is₂ ln2 ln3 (says-pack (v₀ .now) (v₁ .now) L os n xs r k (us .1 .1 .1 .0) (us .1 .1 .1 .1 .0) (us .1 .1 .0) e (front-long xs (av ∷ []) n is₀ within) ln4 e₂)) )))))))))))))))))))))))))))))))))
+        move ! (4 ∷ 3 ∷ []) $ join ! $ move ! (4 ∷ 0 ∷ []) $ join ! $ move ! (4 ∷ 0 ∷ []) $ join ! $ move ! (6 ∷ 5 ∷ []) $ join ! $ move ! (6 ∷ 0 ∷ []) $ join ! $ move ! (6 ∷ 0 ∷ []) $ join ! $ keep ! (1 ∷ 0 ∷ []) $ by ! (exits k w₂ (us .1 .1 .1 .0) (us .1 .1 .0) is₂ ln2 ln3 (says-pack (v₀ .now) (v₁ .now) L os n xs r k (us .1 .1 .1 .0) (us .1 .1 .1 .1 .0) (us .1 .1 .0) e (front-long xs (av ∷ []) n is₀ within) ln4 e₂)))))))))))))))))))))))))))))))))))
 
 module _ {M : Type 1} (𝓤 : URA M) (H : Heap 𝓤) (A : Atoms 𝓤) (W : Given 𝓤 H A) (mem : Memory → SProp 𝓤) (run : Routine → Fun 𝓤) (𝓣 : Tables 𝓤 H) (on-build : Triple 𝓤 (𝓣 .C #build) (Build 𝓤 H A mem run)) (on-keep : Triple 𝓤 (𝓣 .C #keep) (Keep 𝓤 H A mem run)) where
   pack-walks : Walks 𝓤 H A pack.ended stayed (WpFn 𝓤 H (𝓣 .C) (𝓣 .Λ) code.function) (pack.clauses 𝓤 H A mem run)
