@@ -25,7 +25,7 @@ use Rattle.pso_write.specs.declared.rounds.Opening.the-variants as O
 use Rattle.pso_write.specs.Answers.{answerOf, leaves}
 use Rattle.assemble.specs.Packed.{Fitting, SomeFitting, InUse}
 use Rattle.pso_write.specs.Rounds.{Roomy, Rooted, runOf, Laid}
-use Rattle.pso_write.specs.Merge.{refusalOf, remarksIn, filled, Closing, Closed, Inv, Takes, Opens, Begins, Ends}
+use Rattle.pso_write.specs.Merge.{noJob, refusalOf, remarksIn, filled, Closing, Closed, Inv, Takes, Opens, Begins, Ends}
 use Rattle.pso_write.proofs.Merges.{closes}
 
 -- the whole area cleared
@@ -42,8 +42,14 @@ over-front out b = let e : 0 + length b ≡ length b = omega arith in ap (λ (k 
 
 module _ (T F : Bytes) (size room : ℕ) where
   -- a refusal before the layout
-  pub begin-refused : (w : Bytes) (n k : ℕ) → length w ≡ n → Opens T F n (O.Refused k) → Begins T F size room (refusalOf k) w
-  begin-refused w n k l o zs len = closes T F size room k zs w (ap (λ (m : ℕ). build T F m size room) l ∙ o size room)
+  pub begin-refused : (w w' : Bytes) (k : ℕ) → w' ≡ over w 0 (zeros (length w)) → Opens T F (length w) (O.Refused k) → (j : Job) → j ≡ noJob → (r : Stage) → r ≡ refusalOf j k
+      → Begins T F size room r w'
+  begin-refused w w' k e o j f r q zs len =
+      let z : w' ≡ zeros (length w) = e ∙ cleared w in
+      let l : length w' ≡ length w = ap length z ∙ length-zeros (length w) in
+      subst (λ (s : Stage). Inv T F size room s zs w') (sym (q ∙ ap (λ (i : Job). refusalOf i k) f))
+      (closes T F size room noJob k zs w' (ap (λ (m : ℕ). build T F m size room) l ∙ o size room)
+      (record { none = λ _. z ∙ ap zeros (sym l); some = λ n. absurd (n refl) }))
 
   -- the first round can run in the cleared area
   pub begin-ready : (w w' : Bytes) (R : Round) (place name : ℕ) → w' ≡ over w 0 (zeros (length w)) → Opens T F (length w) (O.Go R place name)
@@ -65,7 +71,7 @@ module _ (T F : Bytes) (size room : ℕ) where
 
 module _ (T F out w : Bytes) (room len count : ℕ) (j : Job) (h : Closing T F (length out) room j len count w) where
   -- a refusal
-  pub end-refused : j .good ≡ false → (w' : Bytes) → w' ≡ zeros (length w) → Ends T F room (length w) out (Refused (j .value)) out w'
+  end-refused : j .good ≡ false → (w' : Bytes) → w' ≡ zeros (length w) → Ends T F room (length w) out (Refused (j .value)) out w'
   unfolding buildPso afterwards
   end-refused g w' e =
       let b : build T F (length w) (length out) room ≡ refused (j .value) = h .bad g in (
@@ -73,6 +79,15 @@ module _ (T F out w : Bytes) (room len count : ℕ) (j : Job) (h : Closing T F (
         ap (λ x. afterwards (length w) out room x .output) (sym b),
         e,
       )
+
+  -- .. before any round
+  pub end-unused : j .good ≡ false → j .p .top ≡ 0 → Ends T F room (length w) out (Refused (j .value)) out w
+  end-unused g z = end-refused g w (h .rest g .none z)
+
+  -- .. after one, whose part of the work area is wiped
+  pub end-wiped : j .good ≡ false → (j .p .top ≡ 0 → ⊥) → (w' : Bytes) → ((S : Schema) → InUse S (j .round) (length w) (j .p) w → w' ≡ zeros (length w))
+      → Ends T F room (length w) out (Refused (j .value)) out w'
+  end-wiped g n w' wipes = let u = h .rest g .some n .1 in end-refused g w' (wipes (u .0) (u .1))
 
   -- the file fits
   fitting : j .good ≡ true → (l : Laid T F (length out) room j len w) → Fitting F (j .round) (j .p) w (j .value) (length out) (l .schema) (l .state) (l .stack)

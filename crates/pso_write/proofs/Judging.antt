@@ -27,7 +27,7 @@ use Rattle.assemble.specs.Used.{Counts}
 use Rattle.assemble.specs.Packed.{Holds}
 use Rattle.pso_write.specs.Rounds.{runOf, made, Standing, metIn}
 use Rattle.pso_write.specs.Merge.{refusalOf, endedAt, remarksIn, filled, Goes, Judges}
-use Rattle.pso_write.proofs.Standings.{made-stop, made-done, fitted-long, fitted-fits}
+use Rattle.pso_write.proofs.Standings.{made-stop, made-done, fitted-long, fitted-fits, remains}
 use Rattle.pso_write.proofs.Merges.{turns-last, closes}
 
 -- a refusal of the layout's own
@@ -52,15 +52,16 @@ ended-well S R n (stop k es) true value p w m g = absurd m
 ended-well S R n (stop k es) false value p w m g = absurd (false≢true g)
 
 module _ (F : Bytes) (size : ℕ) (st : Stage) (w : Bytes) where
-  refused-goes : (T : Bytes) (room : ℕ) (zs : List Remark) (k : ℕ) → build T F (length w) size room ≡ refused k → Goes T F size room (refusalOf k) zs w room
-  refused-goes T room zs k e = (closes T F size room k zs w e, omega (arith, turns-last room (refusalOf k) refl))
+  refused-goes : (T : Bytes) (room : ℕ) → Standing T F size room (st .job) w → (zs : List Remark) (k : ℕ) → build T F (length w) size room ≡ refused k
+      → Goes T F size room (refusalOf (st .job) k) zs w room
+  refused-goes T room h zs k e = (closes T F size room (st .job) k zs w e (remains h), omega (arith, turns-last room (refusalOf (st .job) k) refl))
 
   few : (room : ℕ) (zs es : List Remark) → length zs ≡ room → st .count ≤ room → take (st .count) zs ≡ thin es → length (thin es) ≡ st .count
   few room zs es len h t = ap length (sym t) ∙ length-take-le (st .count) zs (omega (arith, h, len))
 
-  pub judge-bad : st .job .good ≡ false → Judges F size st w (refusalOf (st .job .value))
+  pub judge-bad : st .job .good ≡ false → Judges F size st w (refusalOf (st .job) (st .job .value))
   judge-bad g T room h zs len n t =
-      refused-goes T room zs (st .job .value)
+      refused-goes T room h zs (st .job .value)
       (h .builds
       ∙ ended-badly (h .rooted .schema) (st .job .round) (length w) size room (winning (h .rooted .schema)) (runOf T (h .rooted .schema) (h .rooted .def) (st .job .round))
       (st .job .good) (st .job .value) (st .job .p) w (h .meets) g (omega (arith, few room zs (metIn h) len n t, n)))
@@ -94,17 +95,17 @@ module _ (F : Bytes) (size : ℕ) (st : Stage) (w : Bytes) where
     -- 13
     refuses-long : (T : Bytes) (room : ℕ) (h : Standing T F size room (st .job) w) (e : Ended T room h) (zs : List Remark) (n : ℕ)
         → n ≡ length (fileOf (winning (h .rooted .schema)) (st .job .value) (e .state .core)) → ltb size n || ltb 16777216 n ≡ true
-        → length (thin (metIn h)) ≤ room → Goes T F size room (refusalOf 13) zs w room
+        → length (thin (metIn h)) ≤ room → Goes T F size room (refusalOf (st .job) 13) zs w room
     refuses-long T room h e zs n m f l =
-        refused-goes T room zs 13 (built T room h e l ∙ fitted-long (winning (h .rooted .schema)) size (st .job .value) (e .state) n m f)
+        refused-goes T room h zs 13 (built T room h e l ∙ fitted-long (winning (h .rooted .schema)) size (st .job .value) (e .state) n m f)
 
-    pub judge-huge : 16777216 < len → Judges F size st w (refusalOf 13)
+    pub judge-huge : 16777216 < len → Judges F size st w (refusalOf (st .job) 13)
     judge-huge f T room h zs lz n t =
         let e : Ended T room h = well T room h in
         let x : ℕ = length (fileOf (winning (h .rooted .schema)) (st .job .value) (e .state .core)) in
         refuses-long T room h e zs x refl (rw (lt-ltb 16777216 x (counted T room h e .long f)) (or-true (ltb size x))) (omega (arith, few room zs (metIn h) lz n t, n))
 
-    pub judge-long : len ≤ 16777216 → size < len → Judges F size st w (refusalOf 13)
+    pub judge-long : len ≤ 16777216 → size < len → Judges F size st w (refusalOf (st .job) 13)
     judge-long g f T room h zs lz n t =
         let e : Ended T room h = well T room h in
         refuses-long T room h e zs len (counted T room h e .exact g) (rw (lt-ltb size len f) refl) (omega (arith, few room zs (metIn h) lz n t, n))
@@ -125,6 +126,7 @@ module _ (F : Bytes) (size : ℕ) (st : Stage) (w : Bytes) where
               closing = record {
                 counts = sym k ∙ ap length (sym r);
                 bad = λ q. absurd (true≢false (sym good ∙ q));
+                rest = λ q. absurd (true≢false (sym good ∙ q));
                 well = λ _. record {
                   schema = h .rooted .schema;
                   state = e .state;

@@ -16,11 +16,12 @@ use Rattle.numbers.specs.Result.{refused}
 use Rattle.layout.specs.State.{Remark, sameRemark, remarked, noted, thinned, thin}
 use Rattle.layout.specs.Build.{zeroRemark, build}
 use Rattle.area.specs.Rows.{rowsIn}
+use Rattle.pso_write.specs.declared.Job.{Job}
 use Rattle.pso_write.specs.declared.Stage.{Stage}
 use Rattle.pso_write.specs.Rounds.{metIn}
-use Rattle.pso_write.specs.Merge.{refusalOf, movedTo, withCount, soughtAt, remarksIn, filled, rowOf, Fit, Left, Own, Merging, Closed, Inv, bound, turns, Goes, Passes, Steps}
+use Rattle.pso_write.specs.Merge.{refusalOf, movedTo, withCount, soughtAt, remarksIn, filled, rowOf, Fit, Left, Own, Merging, Remains, Closed, Inv, bound, turns, Goes, Passes, Steps}
 use Rattle.pso_write.proofs.Thinning.{noted-in, noted-out, longer, found, absent}
-use Rattle.pso_write.proofs.Standings.{refuses-full, rows-distinct}
+use Rattle.pso_write.proofs.Standings.{refuses-full, rows-distinct, remains}
 
 -- turns
 turns-seeking : (room : ℕ) (st : Stage) → st .last ≡ false → turns room st ≡ bound room (st .job .p .rows - st .row) (st .job .p .seen - st .job .p .next) (st .at)
@@ -49,7 +50,7 @@ module _ (room : ℕ) (st : Stage) (k : ℕ) where
   unfolding soughtAt
   sought-before h = rw (lt-ltb k (st .base) h) refl
 
-  pub sought-full : (r : Stage) → r ≡ refusalOf 14 → st .base ≤ k → st .count ≡ room → r ≡ soughtAt room st k
+  pub sought-full : (r : Stage) → r ≡ refusalOf (st .job) 14 → st .base ≤ k → st .count ≡ room → r ≡ soughtAt room st k
   unfolding soughtAt
   sought-full r e h q = rw (le-ltb k (st .base) h, eq-eqb (st .count) room q) e
 
@@ -59,12 +60,12 @@ module _ (room : ℕ) (st : Stage) (k : ℕ) where
 
 module _ (T F : Bytes) (size room : ℕ) where
   -- a refusal
-  pub closes : (k : ℕ) (zs : List Remark) (w : Bytes) → build T F (length w) size room ≡ refused k → Inv T F size room (refusalOf k) zs w
+  pub closes : (j : Job) (k : ℕ) (zs : List Remark) (w : Bytes) → build T F (length w) size room ≡ refused k → Remains (j .round) (j .p) w → Inv T F size room (refusalOf j k) zs w
   unfolding filled
-  closes k zs w e = (
+  closes j k zs w e m = (
     λ q. absurd (true≢false q),
     λ _. record {
-      closing = record { counts = ap (λ x. length (remarksIn x)) (sym e); bad = λ _. e; well = λ q. absurd (false≢true q) };
+      closing = record { counts = ap (λ x. length (remarksIn x)) (sym e); bad = λ _. e; rest = λ _. m; well = λ q. absurd (false≢true q) };
       upto = zero-le;
       behind = zero-le;
       front = ap (λ x. filled 0 (remarksIn x)) (sym e);
@@ -145,7 +146,7 @@ module _ (T F : Bytes) (size room : ℕ) where
     sought-case false true p q =
         let b : st .base ≤ k = ltb-false k (st .base) p in
         let e : room + 1 ≤ (st .job .p .rows - st .row + (st .job .p .seen - st .job .p .next)) * (room + 1) = product _ room (omega (arith, h .fit .some)) in
-        rw (p, q) (closes 14 zs w (overfull b (eqb-true (st .count) room q)), omega (arith, turns-last room (refusalOf 14) refl, e))
+        rw (p, q) (closes (st .job) 14 zs w (overfull b (eqb-true (st .count) room q)) (remains (h .fit .stands)), omega (arith, turns-last room (refusalOf (st .job) 14) refl, e))
     sought-case false false p q =
         let b : st .base ≤ k = ltb-false k (st .base) p in
         rw (p, q)

@@ -25,7 +25,7 @@ use Rattle.area.proofs.Noting.{rows-are}
 use Rattle.pso_write.specs.declared.Job.{Job}
 use Rattle.assemble.specs.Packed.{InUse, tableAt}
 use Rattle.pso_write.specs.Rounds.{runOf, made, Standing, metIn}
-use Rattle.pso_write.specs.Merge.{rowOf}
+use Rattle.pso_write.specs.Merge.{rowOf, Remains}
 use Rattle.pso_write.proofs.Thinning.{Distinct, distinct-thin}
 use Rattle.pso_write.proofs.Accounts.{Accounts, accounts, goes-on}
 
@@ -90,6 +90,13 @@ in-use {S} {R} {s} {σ} {p} {w} r =
 module _ {T F : Bytes} {size room : ℕ} {j : Job} {w : Bytes} (h : Standing T F size room j w) where
   pub standing : Stopped (h .rooted .schema) (j .round) (length w) (metIn h) (j .p) w
   standing = stood (h .rooted .schema) (j .round) (length w) (runOf T (h .rooted .schema) (h .rooted .def) (j .round)) (j .good) (j .value) (j .p) w (h .meets)
+
+  -- what a refusal finds in the work area
+  pub remains : Remains (j .round) (j .p) w
+  remains = record {
+    none = λ z. absurd (lt-irrefl 0 (omega (arith, z, h .safe .low)));
+    some = λ _. (h .safe, (h .rooted .schema, in-use (standing .rep)));
+  }
 
   abbrev met : List Remark
   met = metIn h

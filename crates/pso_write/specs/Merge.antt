@@ -7,7 +7,7 @@ use lib.Dec.{ltb, eqb}
 use lib.ListN.{length, getD, take, drop, set, replicate}
 use Rattle.numbers.specs.Words.{Bytes, zeros}
 use Rattle.numbers.specs.Result.{Result, ok, refused}
-use Rattle.schema.specs.Defs.{winning}
+use Rattle.schema.specs.Defs.{Schema, winning}
 use Rattle.layout.specs.State.{Remark, sameRemark, thinned, thin}
 use Rattle.layout.specs.Build as Build
 use Rattle.layout.specs.Build.{build, buildPso, zeroRemark, workNeed, capOf}
@@ -15,6 +15,8 @@ use Rattle.layout.proofs.Grows.{eventsOf}
 use Rattle.area.specs.declared.Round.{Round}
 use Rattle.area.specs.declared.Progress.{Progress}
 use Rattle.area.specs.Rows.{rowIn, rowsIn}
+use Rattle.area.specs.Posts.{Safe}
+use Rattle.assemble.specs.Packed.{InUse}
 use Rattle.pso_write.specs.declared.Built.{Built}
 use Rattle.pso_write.specs.declared.Job.{Job}
 use Rattle.pso_write.specs.declared.Stage.{Stage}
@@ -31,9 +33,13 @@ use Rattle.pso_write.specs.Rounds.{Roomy, Rooted, runOf, made, Standing,
 abbrev noNumbers : Progress
 noNumbers = record { blocks = 0; rows = 0; structs = 0; enums = 0; end = 0; top = 0; charge = 0; seen = 0; next = 0 }
 
--- a refusal: "zeroes all remarks"
-abbrev pub refusalOf : ℕ → Stage
-refusalOf k =
+-- before any round
+abbrev pub noJob : Job
+noJob = record { good = false; value = 0; place = 0; name = 0; round = record { entries = 0; cap = 0; skip = 0 }; p = noNumbers }
+
+-- a refusal, after the round j or before any: "zeroes all remarks"
+abbrev pub refusalOf : Job → ℕ → Stage
+refusalOf j k =
     record {
       at = 0;
       last = true;
@@ -41,7 +47,7 @@ refusalOf k =
       base = 0;
       count = 0;
       row = 0;
-      job = record { good = false; value = k; place = 0; name = 0; round = record { entries = 0; cap = 0; skip = 0 }; p = noNumbers };
+      job = record { good = false; value = k; place = j .place; name = j .name; round = j .round; p = j .p };
     }
 
 -- the list is full up to its zeros, and the file has n bytes
@@ -62,7 +68,7 @@ withCount st n = record { at = st .at; last = st .last; length = st .length; bas
 
 -- the row is looked for from record k on: among those of earlier rounds, then it is put behind all; 14: "one more distinct remark than records"
 unfoldable pub soughtAt : ℕ → Stage → ℕ → Stage
-soughtAt room st k = cond (ltb k (st .base)) (movedTo st k) (cond (eqb (st .count) room) (refusalOf 14) (movedTo st (st .count)))
+soughtAt room st k = cond (ltb k (st .base)) (movedTo st k) (cond (eqb (st .count) room) (refusalOf (st .job) 14) (movedTo st (st .count)))
 
 -- a round's job
 abbrev pub jobOf : Ran → Round → ℕ → ℕ → Job
@@ -112,10 +118,16 @@ pub record Merging (T F : Bytes) (size room : ℕ) (st : Stage) (zs : List Remar
   pub own : Own w st (st .row) zs
   pub apart : (k : ℕ) → k < st .at → sameRemark (getD zs k zeroRemark) (rowOf w (st .row)) ≡ false
 
+-- what stands in the work area at a refusal: nothing before any round, or what the round has in use
+pub record Remains (R : Round) (p : Progress) (w : Bytes) : Type 0 where
+  pub none : p .top ≡ 0 → w ≡ zeros (length w)
+  pub some : (p .top ≡ 0 → ⊥) → Safe R (length w) p × ((S : Schema) × InUse S R (length w) p w)
+
 -- the answer is known
 pub record Closing (T F : Bytes) (size room : ℕ) (j : Job) (len count : ℕ) (w : Bytes) : Type 0 where
   pub counts : count ≡ length (remarksIn (build T F (length w) size room))
   pub bad : j .good ≡ false → build T F (length w) size room ≡ refused (j .value)
+  pub rest : j .good ≡ false → Remains (j .round) (j .p) w
   pub well : j .good ≡ true → Laid T F size room j len w
 
 pub record Closed (T F : Bytes) (size room : ℕ) (st : Stage) (zs : List Remark) (w : Bytes) : Type 0 where

@@ -22,7 +22,7 @@ ghost use Rattle.schema.specs.Psch.{schemaOf};
 ghost use Rattle.layout.specs.Build.{sheetOk};
 ghost use Rattle.area.specs.Posts.{Safe};
 ghost use Rattle.pso_write.specs.Rounds.{Roomy, Rooted};
-ghost use Rattle.pso_write.specs.Merge.{refusalOf, endedAt, soughtAt, jobOf, takenAt, roomedAt, Judges, Takes, Opens};
+ghost use Rattle.pso_write.specs.Merge.{noJob, refusalOf, endedAt, soughtAt, jobOf, takenAt, roomedAt, Judges, Takes, Opens};
 
 // What is refused before the layout; or what it runs with: the round, the root's place and name.
 pub enum Opening {
@@ -87,9 +87,9 @@ pub fn opened(sheet: &[u8], schema: &[u8], work: usize) -> Opening
     }
 }
 
-// A refusal.
-pub fn refusal(k: u32) -> Stage
-    ensures { λ r. ⌜ r ≡ refusalOf k ⌝ }
+// Before any round.
+pub fn no_job() -> Job
+    ensures { λ j. ⌜ j ≡ noJob ⌝ }
 {
     let round = Round {
         entries: 0,
@@ -107,14 +107,23 @@ pub fn refusal(k: u32) -> Stage
         seen: 0,
         next: 0,
     };
-    let job = Job {
+    Job {
         good: false,
-        value: k,
+        value: 0,
         place: 0,
         name: 0,
         round,
         p,
-    };
+    }
+}
+
+// A refusal, after a round or before any: its numbers stay, to say what of the work area is in use.
+pub fn refusal(j: Job, k: u32) -> Stage
+    ensures { λ r. ⌜ r ≡ refusalOf j k ⌝ }
+{
+    let mut job = j;
+    job.good = false;
+    job.value = k;
     Stage {
         at: 0,
         last: true,
@@ -136,7 +145,8 @@ pub fn seek(room: usize, st: Stage, k: usize) -> Stage
         return q;
     }
     if st.count == room {
-        return refusal(14);
+        let j = st.job;
+        return refusal(j, 14);
     }
     q.at = st.count;
     q
@@ -173,14 +183,14 @@ pub fn judged(schema: &[u8], work: &[u8], size: usize, st: Stage) -> Stage
 {
     let j = st.job;
     if !j.good {
-        return refusal(j.value);
+        return refusal(j, j.value);
     }
     let n = file_length(schema, work, j.round, j.p);
     if 16777216 < n {
-        return refusal(13);
+        return refusal(j, 13);
     }
     if size < n {
-        return refusal(13);
+        return refusal(j, 13);
     }
     let mut q = st;
     q.last = true;

@@ -4,6 +4,7 @@ use crate::Stage;
 use crate::Turn;
 use crate::rounds::Opening;
 use crate::rounds::judged;
+use crate::rounds::no_job;
 use crate::rounds::opened;
 use crate::rounds::refusal;
 use crate::rounds::seek;
@@ -25,7 +26,7 @@ pub fn first(sheet: &[u8], schema: &[u8], work: &mut [u8], size: usize, room: us
     let n = work.len();
     clear(work, 0, n);
     match opened(sheet, schema, n) {
-        Opening::Refused(k) => refusal(k),
+        Opening::Refused(k) => refusal(no_job(), k),
         Opening::Go(round, place, name) => take_round(
             sheet,
             schema,
@@ -115,7 +116,7 @@ pub fn turn(
     Turn { st: s, new: old }
 }
 
-// The answer, the file on success alone, and the work area zero.
+// The answer, the file on success alone, and the work area zero: what the last round has in use is wiped.
 pub fn last(
     sheet: &[u8],
     schema: &[u8],
@@ -133,7 +134,9 @@ pub fn last(
         wipe(work, j.round, j.p);
         return Built::File(st.length, st.count);
     }
-    let n = work.len();
-    clear(work, 0, n);
+    if j.p.top == 0 {
+        return Built::Refused(j.value);
+    }
+    wipe(work, j.round, j.p);
     Built::Refused(j.value)
 }

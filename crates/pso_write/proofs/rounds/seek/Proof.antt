@@ -9,5 +9,5 @@ seek-spec =
     tie.close
     (tie.spec
     (λ c. let a = c .before .before .args in sought-before (a .room) (a .st) (a .k) (c .if1 .taken)) (λ c κs. search needs)
-    (λ c. let a = c .before .before .before .before .before .args in sought-full (a .room) (a .st) (a .k) (c .refusal .result) (c .refusal .ensures) (c .before .before .before .if1 .left) (c .before .if2 .taken))
+    (λ c. let a = c .before .before .before .before .before .before .args in sought-full (a .room) (a .st) (a .k) (c .refusal .result) (c .refusal .ensures) (c .before .before .before .before .if1 .left) (c .before .before .if2 .taken))
     (λ c. let a = c .before .before .before .before .args in sought-behind (a .room) (a .st) (a .k) (c .before .before .if1 .left) (c .if2 .left)))

@@ -2,7 +2,7 @@
 use mathlib.Core.Path.{sym, subst, _∙_}
 use lib.ListN.{length}
 use borrow.Author.Needs.{needs}
-use Rattle.pso_write.specs.Merge.{Begins, Opens}
+use Rattle.pso_write.specs.Merge.{Opens}
 use Rattle.pso_write.proofs.Endings.{begin-refused, begin-ready, begin-round}
 use Rattle.pso_write.proofs.turns.first.Statement.{statement}
 use Rattle.pso_write.proofs.turns.first.Tie as tie
@@ -11,7 +11,7 @@ pub first-spec : {M : Type 1} → statement M
 first-spec =
     tie.close
     (tie.spec
-    (λ c κs. search needs) (λ c κs. search needs) (λ c. search needs) (λ c κs. search needs) (λ c. search needs)
+    (λ c κs. search needs) (λ c κs. search needs) (λ c. search needs) (λ c κs. search needs) (λ c κs. search needs) (λ c. search needs)
     (λ c κs.
     let a = c .before .before .before .before .before .before .before .before .before .before .before .before .args in
     let g = c .before .before .round .given in
@@ -19,11 +19,10 @@ first-spec =
     (subst (Opens (a .sheet .now) (a .schema .now) (length (a .work .now))) (g .1) (c .before .before .before .before .opened .ensures)))
     (λ c. search needs)
     (λ c.
-    let a = c .before .before .before .before .before .before .before .before .before .before .before .before .args in
-    let w = c .before .before .before .before .before .before .before .clear .last .0 in
-    let g = c .before .before .k .given in
-    subst (λ r. Begins (a .sheet .now) (a .schema .now) (a .size) (a .room) r w) (sym (c .refusal .ensures))
-    (begin-refused (a .sheet .now) (a .schema .now) (a .size) (a .room) w (length (a .work .now)) (g .0 .0) (c .before .before .before .before .before .before .work .given) (subst (Opens (a .sheet .now) (a .schema .now) (length (a .work .now))) (g .1) (c .before .before .before .before .opened .ensures))))
+    let a = c .before .before .before .before .before .before .before .before .before .before .before .before .before .args in
+    let g = c .before .before .before .k .given in
+    begin-refused (a .sheet .now) (a .schema .now) (a .size) (a .room) (a .work .now) (c .before .before .before .before .before .before .before .before .clear .last .0) (g .0 .0) (c .before .before .before .before .before .before .before .before .clear .ensures)
+    (subst (Opens (a .sheet .now) (a .schema .now) (length (a .work .now))) (g .1) (c .before .before .before .before .before .opened .ensures)) (c .before .no-job .result) (c .before .no-job .ensures) (c .refusal .result) (c .refusal .ensures))
     (λ c. search needs)
     (λ c.
     let a = c .before .before .before .before .before .before .before .before .before .before .before .before .before .before .before .args in
