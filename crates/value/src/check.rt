@@ -2,7 +2,7 @@
 ghost use mathlib.Core.Path.{_≡_};
 ghost use mathlib.Core.Bool.{cond};
 ghost use Prim.Native.Nat.{_+_, _≤_, _<_, _^_};
-ghost use lib.Dec.{eqb};
+ghost use lib.Dec.{eqb, ltb};
 ghost use Rattle.value.specs.Rows;
 ghost use Rattle.value.specs.Layout;
 ghost use Rattle.value.specs.Answer;
@@ -74,10 +74,16 @@ fn rest_zero(v: Row) -> bool
     ensures { λ r. ⌜ r ≡ Layout.restZero v ⌝ }
 {
     let n = fields_used(v.kind);
-    ((1 <= n) | (v.a == 0))
-        & ((2 <= n) | (v.b == 0))
-        & ((3 <= n) | (v.c == 0))
-        & ((4 <= n) | (v.d == 0))
+    if (n < 1) & (v.a != 0) {
+        return false;
+    }
+    if (n < 2) & (v.b != 0) {
+        return false;
+    }
+    if (n < 3) & (v.c != 0) {
+        return false;
+    }
+    (4 <= n) | (v.d == 0)
 }
 
 // Whether a number is within its kind's width.
@@ -237,18 +243,24 @@ fn laid_out(sheet: &[u8]) -> bool
     walks(sheet, row_count(sheet))
 }
 
-// Whether every byte is below 128.
+// The larger of two bytes.
+fn larger(a: u8, b: u8) -> u8
+    ensures { λ r. ⌜ r ≡ cond (ltb a b) b a ⌝ }
+{
+    if a < b { b } else { a }
+}
+
+// Whether every byte is below 128, as the largest is then. No byte ends the loop early, so that many are compared at once.
 fn all_ascii(s: &[u8]) -> bool
     ensures { λ t. ⌜ t ≡ Layout.allBelow 128 (now (s .entry)) ⌝ }
 {
+    let mut top: u8 = 0;
     let mut i = 0;
     while i < s.len() {
-        if 128 <= s[i] {
-            return false;
-        }
+        top = larger(top, s[i]);
         i += 1;
     }
-    true
+    top < 128
 }
 
 // Refusal 1, 2 or 3 of a sheet, in this order, or none.
