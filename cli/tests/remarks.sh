@@ -20,9 +20,10 @@ structure() {
 }
 
 # sheet ROW...: a row is "kind name a b c d", what is left out is zero.
-# Kinds: 0 Null, 7 U32, 15 Str, 18 Bytes, 19 Array, 20 Map, 21 Struct.
-sheet() {
-    words $#
+# Kinds: 0 Null, 2 I8, 7 U32, 10 F32, 11 Vec2, 12 Vec3, 14 Hash, 15 Str, 16 Enum, 17 Flags, 18 Bytes, 19 Array, 20 Map,
+# 21 Struct.
+sheet() { words $#; rows "$@"; }
+rows() {
     # shellcheck disable=SC2086
     for r in "$@"; do set -- $r; words $(($1 << 24)) "$2" "${3:-0}" "${4:-0}" "${5:-0}" "${6:-0}"; done
 }
@@ -138,12 +139,100 @@ holds "19 0x41 2 6" "21 0 0x50 8 1" "21 0 0x50 9 1" "21 0 0x50 10 1" "21 0 0x50 
     "18 0x51" "18 0x51" "18 0x51" "18 0x51" "18 0x51" "18 0x51"
 says "structure 0x50, member 0x51: value is not an integer (rows 8, 9, 10, 11, 12, and more)"
 
-# The structure is that of the definition, whatever the row's type is. No row is named where the types differ, and none
-# for keys and values, which have no member name.
+# Rows are found along the definitions. Inline and in runs a row's own type does not count: not the Struct 0x50 is at
+# fault here, which holds the text "7", but the one of type 0.
+at50="structure 0x50, member 0x51"
+array "0x0C 0 0 0x50"; structure 0x50 4 "0x51 6 0 0 0" >>"$t/a.schema"
+holds "19 0x41 2 2" "21 0 0 4 1" "21 0 0x50 5 1" "18 0x51" "15 0x51 0 1"; printf 7 >>"$t/a.sheet"
+says "$at50: value is not an integer (row 4)"
+holds "19 0x41 2 2" "21 0 0x60 4 1" "21 0 0 5 1" "18 0x51" "18 0x51"
+says "$at50: value is not an integer (rows 4, 5)"
+# Inline, two deep, and through a member of another type.
 { structure 0x40 24 "0x41 0x0C 0 0 0x50"; structure 0x50 4 "0x51 6 0 0 0"; } >"$t/a.schema"
-holds "21 0x41 0x60 2 1" "18 0x51"
-says "structure 0x50, member 0x51: value is not an integer"
-structure 0x40 24 "0x100 0x0C 0 0 0x50" "0x41 0x10 1 0 0" >"$t/a.schema"
-structure 0x50 8 "0x51 6 0 0 0" "0x52 7 0 4 0" >>"$t/a.schema"
-holds "20 0x41 2 1" "7 0 1" "18 0"
-says "structure 0x50, member 0x52: value is not a float"
+holds "21 0x41 0x60 2 1" "18 0x51"; says "$at50: value is not an integer (row 2)"
+structure 0x40 24 "0x42 0x0C 0 0 0x60" "0x41 0x0C 0 4 0x50" >"$t/a.schema"
+{ structure 0x60 4 "0x41 0x0C 0 0 0x50"; structure 0x50 4 "0x51 6 0 0 0"; } >>"$t/a.schema"
+sheet "21 0 0x40 1 2" "21 0x41 0 3 1" "21 0x42 0x50 4 2" "7 0x51 7" "18 0x51" "21 0x41 0x40 6 1" "18 0x51" >"$t/a.sheet"
+says "$at50: value is not an integer (row 6)"
+# The first child of a name counts, for each member of that name.
+structure 0x40 24 "0x41 0x0C 0 0 0x50" "0x41 0x0C 0 4 0x60" >"$t/a.schema"
+for name in 0x50 0x60; do structure $name 4 "0x51 6 0 0 0"; done >>"$t/a.schema"
+sheet "21 0 0x40 1 2" "21 0x41 0 3 2" "21 0x41 0 5 1" "18 0x51" "18 0x51" "18 0x51" >"$t/a.sheet"
+says "$at50: value is not an integer (row 3)" "structure 0x60, member 0x51: value is not an integer (row 3)"
+# Of two definitions of a name the last counts: the first has no member 0x51.
+structure 0x40 24 "0x41 0x0C 0 0 0x50" >"$t/a.schema"
+{ structure 0x50 4; structure 0x50 4 "0x51 6 0 0 0"; } >>"$t/a.schema"
+holds "21 0x41 0 2 1" "18 0x51"; says "$at50: value is not an integer (row 2)"
+
+# By pointer the own type counts where it has a definition, else the reference; in runs of pointers as well.
+member "0x0C 3 0 0x50"; for name in 0x50 0x60; do structure $name 4 "0x51 6 0 0 0"; done >>"$t/a.schema"
+holds "21 0x41 0x60 2 1" "18 0x51"; says "structure 0x60, member 0x51: value is not an integer (row 2)"
+holds "21 0x41 0x70 2 1" "18 0x51"; says "$at50: value is not an integer (row 2)"
+array "0x0C 3 0 0x50"; for name in 0x50 0x60; do structure $name 4 "0x51 6 0 0 0"; done >>"$t/a.schema"
+holds "19 0x41 2 4" "21 0 0x60 6 1" "0 0" "21 0 0x70 7 1" "21 0 0x50 8 1" "18 0x51" "18 0x51" "18 0x51"
+says "structure 0x60, member 0x51: value is not an integer (row 6)" "$at50: value is not an integer (rows 7, 8)"
+# A structure that points to itself.
+structure 0x40 12 "0x41 0x0C 3 0 0x40" "0x42 6 0 8 0" >"$t/a.schema"
+sheet "21 0 0x40 1 2" "18 0x42" "21 0x41 0x40 3 2" "21 0x41 9 5 1" "7 0x42 7" "18 0x42" >"$t/a.sheet"
+says "structure 0x40, member 0x42: value is not an integer (rows 1, 5)"
+# Nothing is packed behind the length of an embedded run: here one element.
+structure 0x40 24 "0x100 0x0C 0 0 0x50" "0x41 0x0D 1 0 0x10000" >"$t/a.schema"
+structure 0x50 4 "0x51 6 0 0 0" >>"$t/a.schema"
+holds "19 0x41 2 2" "21 0 0x50 4 1" "21 0 0x50 5 1" "18 0x51" "18 0x51"; says "$at50: value is not an integer (row 4)"
+
+# Keys and values have the names of the pair's first two members; a Struct in a pair leads on.
+pairs() {
+    structure 0x40 24 "0x100 0x0C 0 0 0x50" "0x41 0x10 1 0 0" >"$t/a.schema"
+    structure 0x50 12 "$@" >>"$t/a.schema"
+}
+pairs "0x51 6 0 0 0" "0x100 6 0 0 0" "0x52 7 0 4 0"
+holds "20 0x41 2 2" "7 0 1" "18 0" "18 0" "7 0 2"
+says "structure 0x50, member 0x52: value is not a float (row 3)" "$at50: value is not an integer (row 4)"
+pairs "0x51 6 0 0 0" "0x52 0x0C 0 4 0x60"; structure 0x60 4 "0x61 7 0 0 0" >>"$t/a.schema"
+holds "20 0x41 2 1" "7 0 1" "21 0 0x50 4 1" "18 0x61"
+says "structure 0x60, member 0x61: value is not a float (row 4)"
+pairs "0x51 6 0 0 0" "0x51 7 0 4 0"; holds "20 0x41 2 1" "18 0" "7 0 1"
+says "$at50: value is not an integer (row 2)" "$at50: value is not a float (row 2)"
+
+# Rows that cannot be meant are not named.
+# elements DEFINITION COUNT ROW...: a run of so many Structs, each with a member 0x51; these are the first rows.
+elements() {
+    array "0x0C 0 0 0x50"; structure 0x50 24 "0x51 $1" "0x100 0x0B 0 0 0" >>"$t/a.schema"
+    count=$2; shift 2
+    {
+        words $((2 + count + $#)); rows "21 0 0x40 1 1" "19 0x41 2 $count"
+        k=0; while [ $k -lt "$count" ]; do rows "21 0 0x50 $((2 + count + k)) 1"; k=$((k + 1)); done
+        rows "$@"
+    } >"$t/a.sheet"
+}
+elements "6 0 0 0" 6 "15 0x51 0 2" "15 0x51 2 4" "15 0x51 6 1" "15 0x51 7 1" "14 0x51 5" "12 0x51"
+printf '0xTrUe x' >>"$t/a.sheet"; says "$at50: value is not an integer (rows 8, 11, 13)"
+elements "7 0 0 0" 3 "10 0x51 1" "15 0x51 0 1" "17 0x51 1"
+printf x >>"$t/a.sheet"; says "$at50: value is not a float (row 6)"
+elements "9 0 0 0" 3 "11 0x51" "19 0x51 8 3" "19 0x51 11 2" "7 0 1" "10 0 1" "2 0 1" "7 0 1" "7 0 1"
+says "$at50: value is not a vector3 (row 7)"
+elements "0x0B 1 0 0" 4 "14 0x51 0" "14 0x51 1" "7 0x51 1" "15 0x51 0 0"
+says "$at50: value is not a string or name (rows 7, 8)"
+elements "0x0B 7 0 0" 4 "14 0x51 1" "7 0x51 1" "3 0x51 1" "15 0x51 0 0"
+says "$at50: value is not a string or name (row 8)"
+# An enum's texts are numbers or names of its entries, here "a" by its hash and "hash_1F"; flags are lists of such.
+enum() { printf PSCH; words 40 1 "$1" 20 $((1 << 24 | 2)) 0xCA2E9442 1 0x1F 2; }
+elements "0x0E 0 0 0x70" 5 "16 0x51 1" "15 0x51 0 2" "15 0x51 2 1" "15 0x51 3 1" "15 0x51 4 7"
+printf '%s' -1abhash_1F >>"$t/a.sheet"
+says "$at50: value is not an enum member (rows 9, 10, 11)"
+enum 0x70 >>"$t/a.schema"; says "$at50: value is not an enum member (row 10)"
+elements "0x0F 0 0 1" 5 "19 0x51 12 2" "19 0x51 14 1" "17 0x51 1" "15 0x51 0 4" "15 0x51 4 3" "7 0 1" "15 0 7 0" "18 0"
+enum 0 >>"$t/a.schema"; printf '%s' ' a,aa,b' >>"$t/a.sheet"; says "$at50: value is not a flag set (rows 8, 11)"
+elements "0x0C 3 0 0x40" 3 "15 0x51 0 0" "15 0x51 0 1" "0 0x51"
+printf ' ' >>"$t/a.sheet"; says "$at50: value is not a structure (row 6)"
+elements "0x0D 0 0 1" 3 "15 0x51 0 0" "15 0x51 0 1" "20 0x51 8 0"
+printf ' ' >>"$t/a.sheet"; says "$at50: value is not an array (row 7)"
+# 4, 7, 8 to 12: a missing definition is of no account where there is nothing to pack, or where the own type has one.
+elements "0x0C 3 0 0x60" 3 "21 0x51 0x40 8 0" "21 0x51 0x60 8 0" "0 0x51"
+says "$at50: no definition of structure 0x60 (row 6)"
+elements "0x10 1 0 1" 3 "20 0x51 8 0" "20 0x51 8 1" "0 0x51" "0 0" "0 0"
+says "$at50: no definition of the map's pair structure 0x0 (row 6)"
+elements "0x0D 0 0 1" 3 "19 0x51 8 0" "19 0x51 8 1" "0 0x51" "0 0"
+says "$at50: an array of strings of length 0 (row 6)"
+elements "0x0D 1 0 1" 3 "19 0x51 8 0" "19 0x51 8 1" "0 0x51" "0 0"
+says "$at50: an array of strings of length 0 (rows 5, 6, 7)"
