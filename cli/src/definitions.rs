@@ -20,6 +20,26 @@ pub fn entries<'a>(file: &'a [u8], d: &Listed) -> impl Iterator<Item = Entry> + 
     (0..d.count).map(move |k| library::entry(file, at, k))
 }
 
+/// The name of members that only describe elements.
+pub const ARRAYINFO: u32 = 0x100;
+
+/// The member of a number, from 0.
+pub fn numbered(file: &[u8], d: &Listed, index: u32) -> Option<Member> {
+    (index < d.count).then(|| library::member(file, d.at, index))
+}
+
+/// The member that describes an array's elements, and whether they are laid by pointer.
+pub fn element(file: &[u8], d: &Listed, array: &Member) -> Option<(Member, bool)> {
+    let (wide, narrow) = (array.reference & 0xFFFF, array.reference & 0xFFF);
+    let element = numbered(file, d, wide).or_else(|| numbered(file, d, narrow))?;
+    Some((element, array.subtype == 0 || (array.subtype == 4 && element.subtype == 3)))
+}
+
+/// The name of a map's pair structure: 0 where no member describes it.
+pub fn pair_name(file: &[u8], d: &Listed, map: &Member) -> u32 {
+    numbered(file, d, map.reference & 0xFFFF).map_or(0, |m| m.reference)
+}
+
 /// "structure 0x40", "enum 0x40".
 pub fn shown(d: &Listed) -> String {
     format!("{} 0x{:X}", if d.is_enum { "enum" } else { "structure" }, d.name)

@@ -1,7 +1,9 @@
 //! The command line: arguments, files and messages. What a pack is, the library decides.
 mod accept;
 mod arguments;
+mod behind;
 mod bytes;
+mod causes;
 mod definitions;
 mod dump;
 mod files;

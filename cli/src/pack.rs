@@ -1,5 +1,6 @@
 //! `pack`: a sheet and a schema file become a pack.
 use crate::arguments::Pack;
+use crate::behind::Behind;
 use crate::library::{self, Built, LARGEST_CHARGE, LEAST_WORK, LONGEST_PACK};
 use crate::sections::index_entries;
 use crate::sheet::Sheet;
@@ -61,9 +62,10 @@ fn refusal(o: &Pack, code: u32, place: Option<String>) -> Stop {
 
 fn say_remarks(o: &Pack, sheet: &[u8], built: &Built) {
     let name = files::shown(&o.sheet);
-    let rows = Sheet::of(sheet).ok();
+    let sheet = Sheet::of(sheet).ok().filter(|_| !built.remarks.is_empty());
+    let behind = sheet.as_ref().map(|s| Behind::of(s, &built.file, &built.remarks));
     for r in &built.remarks {
-        let place = rows.as_ref().and_then(|s| places::of_remark(s, r));
+        let place = behind.as_ref().and_then(|b| b.shown(r));
         let place = place.map_or(String::new(), |p| format!(" ({p})"));
         say(&format!("{name}: {}{place}", remark(r)));
     }

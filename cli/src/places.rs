@@ -1,7 +1,6 @@
 //! Where a refusal comes from, as far as it can be seen without packing.
-use crate::library::Remark;
 use crate::sections;
-use crate::sheet::{Sheet, ARRAY, MAP, STR, STRUCT};
+use crate::sheet::{Sheet, STR};
 
 /// The place of a refusal of building: a row, a section, a definition.
 pub fn of_build(code: u32, sheet: &[u8], schema: &[u8]) -> Option<String> {
@@ -61,33 +60,4 @@ fn reads_as_number(text: &[u8]) -> bool {
     let start = text.iter().position(|b| !blank(b)).unwrap_or(text.len());
     let part = text[start..].split(blank).next().unwrap_or(&[]);
     std::str::from_utf8(part).is_ok_and(|s| s.parse::<f64>().is_ok())
-}
-
-/// Whether a value of this kind can be the one that remark 2 speaks of: some kinds always fit.
-fn may_be_wrong(kind: u8, wanted: u32) -> bool {
-    match wanted {
-        4..=6 => !matches!(kind, 0 | 11..=13),
-        7 => !matches!(kind, 0 | STR),
-        10 => !matches!(kind, 0 | STRUCT),
-        11 => !matches!(kind, 0 | ARRAY),
-        12 => !matches!(kind, 0 | MAP),
-        _ => !matches!(kind, 0..=10 | 14 | 16 | 17),
-    }
-}
-
-/// The rows of the sheet that are the member a remark speaks of: by the type of their Struct and their name.
-pub fn of_remark(sheet: &Sheet, remark: &Remark) -> Option<String> {
-    const SHOWN: usize = 5;
-    let structs = sheet.rows.iter().filter(|r| r.kind == STRUCT && r.fields[0] == remark.structure);
-    let members = structs.flat_map(|r| sheet.children(r).find(|c| sheet.rows[*c].name == remark.member));
-    let members = members.filter(|c| remark.kind != 2 || may_be_wrong(sheet.rows[*c].kind, remark.detail));
-    let mut rows: Vec<String> = members.take(SHOWN + 1).map(|c| c.to_string()).collect();
-    if rows.len() > SHOWN {
-        rows[SHOWN] = "and more".into();
-    }
-    match rows.len() {
-        0 => None,
-        1 => Some(format!("row {}", rows[0])),
-        _ => Some(format!("rows {}", rows.join(", "))),
-    }
 }

@@ -1,11 +1,10 @@
 //! Follows every pointer that a pack's definitions place, from the root down.
 use crate::bytes::{u16_at, u32_at};
-use crate::definitions::{members, Table};
+use crate::definitions::{element, members, pair_name, Table, ARRAYINFO};
 use crate::library::{self, Block, Member, Reading};
 use crate::sections::Listed;
 use std::collections::HashSet;
 
-const ARRAYINFO: u32 = 0x100;
 const TEXTS: u32 = 1;
 const POINTERS: u32 = 12;
 const TEXT_HEADS: u32 = 200;
@@ -233,15 +232,9 @@ impl<'a> Walk<'a> {
 
     /// An array by pointer or embedded.
     fn array(&mut self, at: Place, def: &Listed, m: &Member) {
-        let (wide, narrow) = (m.reference & 0xFFFF, m.reference & 0xFFF);
-        let index = if wide < def.count { wide } else { narrow };
-        if index >= def.count {
-            return;
-        }
-        let element = library::member(self.pack.file, def.at, index);
+        let Some((element, by_pointer)) = element(self.pack.file, def, m) else { return };
         let Some(run) = self.run_of(&element) else { return };
         let left = (def.size as usize).saturating_sub(m.offset as usize);
-        let by_pointer = m.subtype == 0 || (m.subtype == 4 && element.subtype == 3);
         if !by_pointer {
             let most = (m.reference >> 16) as usize;
             return self.elements(at, &run, most.min(left.checked_div(run.stride).unwrap_or(most)));
@@ -278,8 +271,7 @@ impl<'a> Walk<'a> {
 
     /// The pairs of a map.
     fn map(&mut self, at: Place, def: &Listed, m: &Member) {
-        let index = m.reference & 0xFFFF;
-        let pair = if index < def.count { library::member(self.pack.file, def.at, index).reference } else { 0 };
+        let pair = pair_name(self.pack.file, def, m);
         let Some(d) = self.pack.table.structure(pair) else { return };
         let run = Run { name: pair, stride: d.size as usize, elements: Elements::Structures(pair) };
         let count = self.u16(Place { start: at.start + 16, ..at });
