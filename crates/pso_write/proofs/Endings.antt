@@ -1,12 +1,11 @@
 -- The beginning and the end: the first round, the answer, the file, and what the list holds. Assumes nothing.
 use mathlib.Core.Path.{_≡_, refl, sym, ap, subst, _∙_}
-use mathlib.Core.Bool.{Bool, true, false}
+use mathlib.Core.Bool.{true, false}
 use mathlib.Core.List.{List, [], _++_, append-nil}
-use Prim.Native.Nat.{ℕ, _+_, _-_, _≤_, zero-le}
-use native.Mathlib.Nat.{lt-irrefl, sub-zero}
+use Prim.Native.Nat.{ℕ, _+_, _≤_, zero-le}
+use native.Mathlib.Nat.{sub-zero}
 use native.Mathlib.Omega.{arith}
 use lib.ListN.{length, take, drop, replicate, drop-of-length-le}
-use lib.Seq.{take-all}
 use Rattle.numbers.specs.Words.{Bytes, over, zeros}
 use Rattle.numbers.specs.Result.{Result, ok, refused}
 use Rattle.schema.specs.Defs.{Schema, winning}
@@ -25,7 +24,7 @@ use Rattle.pso_write.specs.declared.rounds.Opening.the-variants as O
 use Rattle.pso_write.specs.Answers.{answerOf, leaves}
 use Rattle.assemble.specs.Packed.{Fitting, SomeFitting, InUse}
 use Rattle.pso_write.specs.Rounds.{Roomy, Rooted, runOf, Laid}
-use Rattle.pso_write.specs.Merge.{noJob, refusalOf, remarksIn, filled, Closing, Closed, Inv, Takes, Opens, Begins, Ends}
+use Rattle.pso_write.specs.Merge.{noJob, refusalOf, remarksIn, filled, Closing, Inv, Takes, Opens, Begins, Ends}
 use Rattle.pso_write.proofs.Merges.{closes}
 
 -- the whole area cleared
@@ -136,31 +135,22 @@ together : (a : Answer) (o : Bytes) (zs : List Remark) (w : Bytes) (x : After) �
     → record { answer = a; output = o; remarks = zs; work = w } ≡ x
 together a o zs w x p q r s = rw (p, q, r, s) refl
 
-module _ (T F : Bytes) (size room : ℕ) (st : Stage) (zs : List Remark) (w : Bytes) (len : length zs ≡ room) (inv : Inv T F size room st zs w) (over : room ≤ st .at) where
-  at-end : Closed T F size room st zs w
-  at-end = go (st .last) refl
-    where
-      go : (b : Bool) → st .last ≡ b → Closed T F size room st zs w
-      go true e = inv .1 e
-      go false e = absurd (lt-irrefl 0 (omega (arith, inv .0 e .place, over)))
-
+module _ (T F : Bytes) (size room : ℕ) (st : Stage) (zs : List Remark) (w : Bytes) (len : length zs ≡ room) (inv : Inv T F size room st zs w) (over : st .last ≡ true) where
   -- the loop leaves what the end asks for
   pub ready : Closing T F size room (st .job) (st .length) (st .count) w
-  ready = at-end .closing
+  ready = inv .1 over .closing
 
-  listed : zs ≡ filled room (remarksIn (build T F (length w) size room))
-  listed =
-      let a : st .at ≡ room = omega (arith, over, at-end .upto) in
-      sym (take-all room zs (omega (arith, len))) ∙ ap (λ (k : ℕ). take k zs) (sym a) ∙ at-end .front
-      ∙ ap (λ (k : ℕ). filled k (remarksIn (build T F (length w) size room))) a
+  -- all that the call leaves, with zeros behind the remarks
+  module _ (zs' : List Remark) (rest : zs' ≡ filled (length zs) (take (st .at) zs)) where
+    listed : zs' ≡ filled room (remarksIn (build T F (length w) size room))
+    listed = rest ∙ ap (λ (n : ℕ). filled n (take (st .at) zs)) len ∙ ap (filled room) (inv .1 over .front)
 
-  -- all that the call leaves
-  pub leaves-all : (n : ℕ) → length w ≡ n → (out : Bytes) → length out ≡ size → (r : Built) (out' w' : Bytes) → Ends T F room (length w) out r out' w'
-      → leaves r out' zs w' ≡ buildPso T F n out room
-  unfolding buildPso
-  leaves-all n ln out lo r out' w' e =
-      let m : build T F (length w) size room ≡ build T F (length w) (length out) room = ap (λ (k : ℕ). build T F (length w) k room) (sym lo) in
-      together (answerOf r) out' zs w' (buildPso T F (length w) out room) (e .0) (e .1)
-      (listed ∙ ap (λ x. filled room (remarksIn x)) m ∙ remarks-are (length w) room out (build T F (length w) (length out) room))
-      (e .2 ∙ work-is (length w) room out (build T F (length w) (length out) room))
-      ∙ ap (λ (k : ℕ). buildPso T F k out room) ln
+    pub leaves-all : (n : ℕ) → length w ≡ n → (out : Bytes) → length out ≡ size → (r : Built) (out' w' : Bytes) → Ends T F room (length w) out r out' w'
+        → leaves r out' zs' w' ≡ buildPso T F n out room
+    unfolding buildPso
+    leaves-all n ln out lo r out' w' e =
+        let m : build T F (length w) size room ≡ build T F (length w) (length out) room = ap (λ (k : ℕ). build T F (length w) k room) (sym lo) in
+        together (answerOf r) out' zs' w' (buildPso T F (length w) out room) (e .0) (e .1)
+        (listed ∙ ap (λ x. filled room (remarksIn x)) m ∙ remarks-are (length w) room out (build T F (length w) (length out) room))
+        (e .2 ∙ work-is (length w) room out (build T F (length w) (length out) room))
+        ∙ ap (λ (k : ℕ). buildPso T F k out room) ln

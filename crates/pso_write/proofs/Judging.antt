@@ -1,11 +1,11 @@
 -- All rows are merged: the layout's own answer, and the file's length. Assumes nothing.
 use mathlib.Core.Path.{_≡_, refl, sym, ap, subst, _∙_}
 use mathlib.Core.Bool.{Bool, true, false, cond, _||_, or-true, false≢true, true≢false}
-use mathlib.Core.List.{List, [], _++_, append-nil}
-use Prim.Native.Nat.{ℕ, _+_, _-_, _<_, _≤_}
+use mathlib.Core.List.{List, []}
+use Prim.Native.Nat.{ℕ, _<_, _≤_}
 use native.Mathlib.Omega.{arith}
 use lib.Dec.{ltb}
-use lib.ListN.{length, take, replicate}
+use lib.ListN.{length, take}
 use lib.Seq.{length-take-le}
 use borrow.Author.Tests.{lt-ltb}
 use Rattle.numbers.specs.Words.{Bytes}
@@ -15,7 +15,7 @@ use Rattle.schema.specs.Defs.{Schema, Lookup, winning}
 use Rattle.layout.specs.State.{Remark, State, Out, done, stop, thin}
 use Rattle.layout.specs.Assemble.{fileOf}
 use Rattle.layout.specs.Build as Build
-use Rattle.layout.specs.Build.{zeroRemark, packed, build}
+use Rattle.layout.specs.Build.{packed, build}
 use Rattle.layout.proofs.Grows.{eventsOf}
 use Rattle.layout.proofs.Tiling.{Tiled, root-tiled}
 use Rattle.area.specs.declared.Round.{Round}
@@ -26,7 +26,7 @@ use Rattle.pso_write.specs.declared.Stage.{Stage}
 use Rattle.assemble.specs.Used.{Counts}
 use Rattle.assemble.specs.Packed.{Holds}
 use Rattle.pso_write.specs.Rounds.{runOf, made, Standing, metIn}
-use Rattle.pso_write.specs.Merge.{refusalOf, endedAt, remarksIn, filled, Goes, Judges}
+use Rattle.pso_write.specs.Merge.{refusalOf, endedAt, remarksIn, Goes, Judges}
 use Rattle.pso_write.proofs.Standings.{made-stop, made-done, fitted-long, fitted-fits, remains}
 use Rattle.pso_write.proofs.Merges.{turns-last, closes}
 
@@ -53,7 +53,7 @@ ended-well S R n (stop k es) false value p w m g = absurd (false≢true g)
 
 module _ (F : Bytes) (size : ℕ) (st : Stage) (w : Bytes) where
   refused-goes : (T : Bytes) (room : ℕ) → Standing T F size room (st .job) w → (zs : List Remark) (k : ℕ) → build T F (length w) size room ≡ refused k
-      → Goes T F size room (refusalOf (st .job) k) zs w room
+      → Goes T F size room (refusalOf (st .job) k) zs w 0
   refused-goes T room h zs k e = (closes T F size room (st .job) k zs w e (remains h), omega (arith, turns-last room (refusalOf (st .job) k) refl))
 
   few : (room : ℕ) (zs es : List Remark) → length zs ≡ room → st .count ≤ room → take (st .count) zs ≡ thin es → length (thin es) ≡ st .count
@@ -95,7 +95,7 @@ module _ (F : Bytes) (size : ℕ) (st : Stage) (w : Bytes) where
     -- 13
     refuses-long : (T : Bytes) (room : ℕ) (h : Standing T F size room (st .job) w) (e : Ended T room h) (zs : List Remark) (n : ℕ)
         → n ≡ length (fileOf (winning (h .rooted .schema)) (st .job .value) (e .state .core)) → ltb size n || ltb 16777216 n ≡ true
-        → length (thin (metIn h)) ≤ room → Goes T F size room (refusalOf (st .job) 13) zs w room
+        → length (thin (metIn h)) ≤ room → Goes T F size room (refusalOf (st .job) 13) zs w 0
     refuses-long T room h e zs n m f l =
         refused-goes T room h zs 13 (built T room h e l ∙ fitted-long (winning (h .rooted .schema)) size (st .job .value) (e .state) n m f)
 
@@ -111,15 +111,14 @@ module _ (F : Bytes) (size : ℕ) (st : Stage) (w : Bytes) where
         refuses-long T room h e zs len (counted T room h e .exact g) (rw (lt-ltb size len f) refl) (omega (arith, few room zs (metIn h) lz n t, n))
 
     pub judge-fits : len ≤ 16777216 → len ≤ size → Judges F size st w (endedAt st len)
-    unfolding filled packed
+    unfolding packed
     judge-fits g f T room h zs lz n t =
         let e : Ended T room h = well T room h in
         let k : length (thin (metIn h)) ≡ st .count = few room zs (metIn h) lz n t in
         let m : len ≡ length (fileOf (winning (h .rooted .schema)) (st .job .value) (e .state .core)) = counted T room h e .exact g in
         let b : build T F (length w) size room ≡ ok (packed (record { state = e .state; pointer = st .job .value; defs = winning (h .rooted .schema) })) =
         built T room h e (omega (arith, k, n)) ∙ fitted-fits (winning (h .rooted .schema)) size (st .job .value) (e .state) len m f g in
-        let r : remarksIn (build T F (length w) size room) ≡ thin (metIn h) = ap remarksIn b ∙ ap thin (sym (met-is T room h e)) in
-        let z : st .count - length (thin (metIn h)) ≡ 0 = omega (arith, k) in (
+        let r : remarksIn (build T F (length w) size room) ≡ thin (metIn h) = ap remarksIn b ∙ ap thin (sym (met-is T room h e)) in (
           (
             λ q. absurd (true≢false q),
             λ _. record {
@@ -141,9 +140,7 @@ module _ (F : Bytes) (size : ℕ) (st : Stage) (w : Bytes) where
                   builds = b;
                 };
               };
-              upto = n;
-              behind = omega arith;
-              front = t ∙ sym (append-nil (thin (metIn h))) ∙ ap (λ (i : ℕ). thin (metIn h) ++ replicate i zeroRemark) (sym z) ∙ ap (filled (st .count)) (sym r);
+              front = t ∙ sym r;
             },
           ),
           omega (arith, turns-last room (endedAt st len) refl),

@@ -1,13 +1,13 @@
 -- The merge, by value: each turn keeps `Inv` and leaves fewer turns. Assumes nothing.
 use mathlib.Core.Path.{_≡_, refl, sym, ap, subst, _∙_}
 use mathlib.Core.Bool.{Bool, true, false, false≢true, true≢false}
-use mathlib.Core.List.{List, [], _∷_, _++_, append-assoc}
-use Prim.Native.Nat.{ℕ, zero, suc, _+_, _*_, _-_, _<_, _≤_, zero-le}
+use mathlib.Core.List.{List, [], _∷_, _++_}
+use Prim.Native.Nat.{ℕ, suc, _+_, _*_, _-_, _<_, _≤_}
 use native.Mathlib.Numerals.{add-one}
-use native.Mathlib.Nat.{lt-irrefl, suc-mul, mul-le-mul-right}
+use native.Mathlib.Nat.{lt-irrefl, suc-mul}
 use native.Mathlib.Omega.{arith}
 use lib.Dec.{eqb, ltb}
-use lib.ListN.{length, getD, take, drop, set, replicate, length-append, length-set, replicate-append-replicate}
+use lib.ListN.{length, getD, take, drop, set, length-append, length-set}
 use lib.Seq.{length-take-le, take-suc-set, getD-take, set-getD, getD-set-same, getD-set-other}
 use borrow.Author.Count.{below-more}
 use borrow.Author.Tests.{eq-eqb, ne-eqb, eqb-true, eqb-false, lt-ltb, le-ltb, ltb-true, ltb-false}
@@ -19,7 +19,7 @@ use Rattle.area.specs.Rows.{rowsIn}
 use Rattle.pso_write.specs.declared.Job.{Job}
 use Rattle.pso_write.specs.declared.Stage.{Stage}
 use Rattle.pso_write.specs.Rounds.{metIn}
-use Rattle.pso_write.specs.Merge.{refusalOf, movedTo, withCount, soughtAt, remarksIn, filled, rowOf, Fit, Left, Own, Merging, Remains, Closed, Inv, bound, turns, Goes, Passes, Steps}
+use Rattle.pso_write.specs.Merge.{refusalOf, movedTo, withCount, soughtAt, remarksIn, rowOf, Fit, Left, Own, Merging, Remains, Inv, bound, turns, Goes, Passes, Steps}
 use Rattle.pso_write.proofs.Thinning.{noted-in, noted-out, longer, found, absent}
 use Rattle.pso_write.proofs.Standings.{refuses-full, rows-distinct, remains}
 
@@ -28,12 +28,9 @@ turns-seeking : (room : ℕ) (st : Stage) → st .last ≡ false → turns room 
 unfolding turns
 turns-seeking room st e = rw e refl
 
-pub turns-last : (room : ℕ) (st : Stage) → st .last ≡ true → turns room st ≡ room - st .at
+pub turns-last : (room : ℕ) (st : Stage) → st .last ≡ true → turns room st ≡ 0
 unfolding turns
 turns-last room st e = rw e refl
-
-product : (x r : ℕ) → 1 ≤ x → r + 1 ≤ x * (r + 1)
-product x r h = let e : 1 * (r + 1) ≤ x * (r + 1) = mul-le-mul-right (r + 1) h in omega (arith, e)
 
 turns-fall : (room : ℕ) (st : Stage) (n : ℕ) → st .last ≡ false → st .row < st .job .p .rows → st .at < room
     → n ≤ bound room (st .job .p .rows - (st .row + 1)) (st .job .p .seen - st .job .p .next) 0 → n < turns room st
@@ -61,14 +58,11 @@ module _ (room : ℕ) (st : Stage) (k : ℕ) where
 module _ (T F : Bytes) (size room : ℕ) where
   -- a refusal
   pub closes : (j : Job) (k : ℕ) (zs : List Remark) (w : Bytes) → build T F (length w) size room ≡ refused k → Remains (j .round) (j .p) w → Inv T F size room (refusalOf j k) zs w
-  unfolding filled
   closes j k zs w e m = (
     λ q. absurd (true≢false q),
     λ _. record {
       closing = record { counts = ap (λ x. length (remarksIn x)) (sym e); bad = λ _. e; rest = λ _. m; well = λ q. absurd (false≢true q) };
-      upto = zero-le;
-      behind = zero-le;
-      front = ap (λ x. filled 0 (remarksIn x)) (sym e);
+      front = ap remarksIn (sym e);
     },
   )
 
@@ -145,8 +139,7 @@ module _ (T F : Bytes) (size room : ℕ) where
         rw p (merging k (omega (arith, l, h .fit .base, h .fit .count)) (λ g. absurd (lt-irrefl 0 (omega (arith, g, l)))) (h .apart) (omega arith))
     sought-case false true p q =
         let b : st .base ≤ k = ltb-false k (st .base) p in
-        let e : room + 1 ≤ (st .job .p .rows - st .row + (st .job .p .seen - st .job .p .next)) * (room + 1) = product _ room (omega (arith, h .fit .some)) in
-        rw (p, q) (closes (st .job) 14 zs w (overfull b (eqb-true (st .count) room q)) (remains (h .fit .stands)), omega (arith, turns-last room (refusalOf (st .job) 14) refl, e))
+        rw (p, q) (closes (st .job) 14 zs w (overfull b (eqb-true (st .count) room q)) (remains (h .fit .stands)), omega (arith, turns-last room (refusalOf (st .job) 14) refl))
     sought-case false false p q =
         let b : st .base ≤ k = ltb-false k (st .base) p in
         rw (p, q)
@@ -156,104 +149,78 @@ module _ (T F : Bytes) (size room : ℕ) where
     sought = sought-case (ltb k (st .base)) (eqb (st .count) room) refl refl
 
   -- a turn
-  filled-one : (n : ℕ) (xs : List Remark) → length xs ≤ n → filled n xs ++ (zeroRemark ∷ []) ≡ filled (n + 1) xs
-  unfolding filled
-  filled-one n xs h =
-      let e : n - length xs + 1 ≡ n + 1 - length xs = omega (arith, h) in
-      append-assoc xs (replicate (n - length xs) zeroRemark) (zeroRemark ∷ [])
-      ∙ ap (λ (l : List Remark). xs ++ l) (replicate-append-replicate (n - length xs) 1 zeroRemark ∙ ap (λ (k : ℕ). replicate k zeroRemark) e)
-
-  module _ (st : Stage) (old : Remark) (w : Bytes) (place : st .at < room) where
-    -- a record becomes zero
-    pub step-last : st .last ≡ true → Steps T F size room st old w (record { st = movedTo st (st .at + 1); new = zeroRemark }) w
-    step-last l zs len eo inv =
-        let k : Closed T F size room st zs w = inv .1 l in (
-          (
-            λ q. absurd (true≢false (sym l ∙ q)),
-            λ _. record {
-              closing = k .closing;
-              upto = omega (arith, place);
-              behind = omega (arith, k .behind);
-              front = ap (λ (j : ℕ). take j (set zs (st .at) zeroRemark)) (add-one (st .at)) ∙ take-suc-set zs (st .at) zeroRemark (omega (arith, place, len))
-                  ∙ ap (λ (x : List Remark). x ++ (zeroRemark ∷ [])) (k .front)
-                  ∙ filled-one (st .at) (remarksIn (build T F (length w) size room)) (omega (arith, k .behind, k .closing .counts));
-            },
-          ),
-          omega (arith, turns-last room (movedTo st (st .at + 1)) l, turns-last room st l, place),
+  module _ (st : Stage) (old : Remark) (w : Bytes) (place : st .at < room) (fit : Fit T F w size room st) where
+    -- the record equals the row
+    pub step-found : st .at < st .base → sameRemark old (rowOf w (st .row)) ≡ true → (r : Stage) (w' : Bytes) → Passes T F size room st w r w'
+        → Steps T F size room st old w (record { st = r; new = old }) w'
+    step-found h same r w' passes zs len eo inv =
+        let m : Merging T F size room st zs w = inv .0 (fit .going) in
+        let es : List Remark = metIn (m .fit .stands) in
+        let acc : List Remark = take (st .count) zs in
+        let x : Remark = rowOf w (st .row) in
+        let c : st .at < st .count = omega (arith, h, fit .base) in
+        let lt : st .at < length acc = omega (arith, c, length-take-le (st .count) zs (omega (arith, fit .count, len))) in
+        let mem : remarked x acc ≡ true = found acc x (st .at) lt (ap (λ (y : Remark). sameRemark y x) (getD-take (st .count) zs (st .at) zeroRemark c ∙ sym eo) ∙ same) in
+        let g = passes (m .fit) zs len
+        (ap (λ (l : List Remark). thinned l (rowsIn w (32768 + 16 * (st .row + 1)) (st .job .p .rows - (st .row + 1)) ++ drop (st .job .p .next) es)) (sym (noted-in x acc mem))
+        ∙ some-left w st zs es (fit .some) (m .left))
+        (λ k j a b c d. m .own k j a b (omega (arith, c)) d) in (
+          subst (λ (l : List Remark). Inv T F size room r l w') (sym (ap (set zs (st .at)) eo ∙ set-getD zs (st .at) zeroRemark)) (g .0),
+          turns-fall room st (turns room r) (fit .going) (fit .some) place (g .1),
         )
 
-    module _ (last : st .last ≡ false) (fit : Fit T F w size room st) where
-      -- the record equals the row
-      pub step-found : st .at < st .base → sameRemark old (rowOf w (st .row)) ≡ true → (r : Stage) (w' : Bytes) → Passes T F size room st w r w'
-          → Steps T F size room st old w (record { st = r; new = old }) w'
-      step-found h same r w' passes zs len eo inv =
-          let m : Merging T F size room st zs w = inv .0 last in
-          let es : List Remark = metIn (m .fit .stands) in
-          let acc : List Remark = take (st .count) zs in
-          let x : Remark = rowOf w (st .row) in
-          let c : st .at < st .count = omega (arith, h, fit .base) in
-          let lt : st .at < length acc = omega (arith, c, length-take-le (st .count) zs (omega (arith, fit .count, len))) in
-          let mem : remarked x acc ≡ true = found acc x (st .at) lt (ap (λ (y : Remark). sameRemark y x) (getD-take (st .count) zs (st .at) zeroRemark c ∙ sym eo) ∙ same) in
-          let g = passes (m .fit) zs len
-          (ap (λ (l : List Remark). thinned l (rowsIn w (32768 + 16 * (st .row + 1)) (st .job .p .rows - (st .row + 1)) ++ drop (st .job .p .next) es)) (sym (noted-in x acc mem))
-          ∙ some-left w st zs es (fit .some) (m .left))
-          (λ k j a b c d. m .own k j a b (omega (arith, c)) d) in (
-            subst (λ (l : List Remark). Inv T F size room r l w') (sym (ap (set zs (st .at)) eo ∙ set-getD zs (st .at) zeroRemark)) (g .0),
-            turns-fall room st (turns room r) last (fit .some) place (g .1),
-          )
+    -- it does not: the next one
+    pub step-next : st .at < st .base → sameRemark old (rowOf w (st .row)) ≡ false → (r : Stage) → r ≡ soughtAt room st (st .at + 1)
+        → Steps T F size room st old w (record { st = r; new = old }) w
+    step-next h differ r q zs len eo inv =
+        let m : Merging T F size room st zs w = inv .0 (fit .going) in
+        let g = sought w st zs (st .at + 1)
+        (record {
+          len = len;
+          fit = m .fit;
+          upto = omega (arith, h);
+          left = m .left;
+          own = m .own;
+          apart = below-more (λ (k : ℕ). sameRemark (getD zs k zeroRemark) (rowOf w (st .row)) ≡ false) (st .at) (m .apart)
+              (ap (λ (y : Remark). sameRemark y (rowOf w (st .row))) (sym eo) ∙ differ);
+        }) in
+        let t : turns room (soughtAt room st (st .at + 1)) < turns room st = omega (arith, turns-seeking room st (fit .going), g .1, place) in (
+          subst (λ (l : List Remark). Inv T F size room r l w) (sym (ap (set zs (st .at)) eo ∙ set-getD zs (st .at) zeroRemark)) (subst (λ (x : Stage). Inv T F size room x zs w) (sym q) (g .0)),
+          subst (λ (x : Stage). turns room x < turns room st) (sym q) t,
+        )
 
-      -- it does not: the next one
-      pub step-next : st .at < st .base → sameRemark old (rowOf w (st .row)) ≡ false → (r : Stage) → r ≡ soughtAt room st (st .at + 1)
-          → Steps T F size room st old w (record { st = r; new = old }) w
-      step-next h differ r q zs len eo inv =
-          let m : Merging T F size room st zs w = inv .0 last in
-          let g = sought w st zs (st .at + 1)
-          (record {
-            len = len;
-            fit = m .fit;
-            upto = omega (arith, h);
-            left = m .left;
-            own = m .own;
-            apart = below-more (λ (k : ℕ). sameRemark (getD zs k zeroRemark) (rowOf w (st .row)) ≡ false) (st .at) (m .apart)
-                (ap (λ (y : Remark). sameRemark y (rowOf w (st .row))) (sym eo) ∙ differ);
-          }) in
-          let t : turns room (soughtAt room st (st .at + 1)) < turns room st = omega (arith, turns-seeking room st last, g .1, place) in (
-            subst (λ (l : List Remark). Inv T F size room r l w) (sym (ap (set zs (st .at)) eo ∙ set-getD zs (st .at) zeroRemark)) (subst (λ (x : Stage). Inv T F size room x zs w) (sym q) (g .0)),
-            subst (λ (x : Stage). turns room x < turns room st) (sym q) t,
-          )
+    pub fit-put : (st .base ≤ st .at → st .at ≡ st .count) → st .base ≤ st .at → Fit T F w size room (withCount st (st .count + 1))
+    fit-put s h = record { stands = fit .stands; going = fit .going; some = fit .some; count = omega (arith, s h, place); base = omega (arith, fit .base) }
 
-      pub fit-put : (st .base ≤ st .at → st .at ≡ st .count) → st .base ≤ st .at → Fit T F w size room (withCount st (st .count + 1))
-      fit-put s h = record { stands = fit .stands; going = last; some = fit .some; count = omega (arith, s h, place); base = omega (arith, fit .base) }
+    -- .. with the row there, none of this round's records is one of the rows behind it
+    own-put : (zs : List Remark) → length zs ≡ room → st .at ≡ st .count → (x : Remark) → x ≡ rowOf w (st .row) → Own w st (st .row) zs
+        → Own w (withCount st (st .count + 1)) (st .row + 1) (set zs (st .at) x)
+    own-put zs len a x ex own k j b c d e = go (eqb k (st .at)) refl
+      where
+        go : (t : Bool) → eqb k (st .at) ≡ t → sameRemark (getD (set zs (st .at) x) k zeroRemark) (rowOf w j) ≡ false
+        go true q =
+            ap (λ (i : ℕ). sameRemark (getD (set zs (st .at) x) i zeroRemark) (rowOf w j)) (eqb-true k (st .at) q)
+            ∙ ap (λ (y : Remark). sameRemark y (rowOf w j)) (getD-set-same zs (st .at) x zeroRemark (omega (arith, place, len)) ∙ ex)
+            ∙ rows-distinct (fit .stands) (st .row) j (omega (arith, d)) e
+        go false q =
+            ap (λ (y : Remark). sameRemark y (rowOf w j)) (getD-set-other zs (st .at) k x zeroRemark (eqb-false k (st .at) q))
+            ∙ own k j b (omega (arith, c, a, eqb-false k (st .at) q)) (omega (arith, d)) e
 
-      -- .. with the row there, none of this round's records is one of the rows behind it
-      own-put : (zs : List Remark) → length zs ≡ room → st .at ≡ st .count → (x : Remark) → x ≡ rowOf w (st .row) → Own w st (st .row) zs
-          → Own w (withCount st (st .count + 1)) (st .row + 1) (set zs (st .at) x)
-      own-put zs len a x ex own k j b c d e = go (eqb k (st .at)) refl
-        where
-          go : (t : Bool) → eqb k (st .at) ≡ t → sameRemark (getD (set zs (st .at) x) k zeroRemark) (rowOf w j) ≡ false
-          go true q =
-              ap (λ (i : ℕ). sameRemark (getD (set zs (st .at) x) i zeroRemark) (rowOf w j)) (eqb-true k (st .at) q)
-              ∙ ap (λ (y : Remark). sameRemark y (rowOf w j)) (getD-set-same zs (st .at) x zeroRemark (omega (arith, place, len)) ∙ ex)
-              ∙ rows-distinct (fit .stands) (st .row) j (omega (arith, d)) e
-          go false q =
-              ap (λ (y : Remark). sameRemark y (rowOf w j)) (getD-set-other zs (st .at) k x zeroRemark (eqb-false k (st .at) q))
-              ∙ own k j b (omega (arith, c, a, eqb-false k (st .at) q)) (omega (arith, d)) e
-
-      -- the row is put behind the others
-      pub step-put : st .base ≤ st .at → (x : Remark) → x ≡ rowOf w (st .row) → (r : Stage) (w' : Bytes) → Passes T F size room (withCount st (st .count + 1)) w r w'
-          → Steps T F size room st old w (record { st = r; new = x }) w'
-      step-put h x ex r w' passes zs len eo inv =
-          let m : Merging T F size room st zs w = inv .0 last in
-          let es : List Remark = metIn (m .fit .stands) in
-          let a : st .at ≡ st .count = m .settled h in
-          let acc : List Remark = take (st .count) zs in
-          let out : remarked x acc ≡ false = not-there zs x (st .count) (omega (arith, fit .count, len)) (λ k l. ap (sameRemark (getD zs k zeroRemark)) ex ∙ m .apart k (omega (arith, l, a))) in
-          let zs′ : List Remark = set zs (st .at) x in
-          let t : take (st .count + 1) zs′ ≡ noted (rowOf w (st .row)) acc =
-          ap (λ (j : ℕ). take j zs′) (add-one (st .count)) ∙ ap (λ (j : ℕ). take (suc (st .count)) (set zs j x)) a ∙ take-suc-set zs (st .count) x (omega (arith, a, place, len))
-          ∙ sym (noted-out x acc out) ∙ ap (λ (y : Remark). noted y acc) ex in
-          let g = passes (record { stands = m .fit .stands; going = last; some = fit .some; count = omega (arith, a, place); base = omega (arith, fit .base) }) zs′ (length-set zs (st .at) x ∙ len)
-          (ap (λ (l : List Remark). thinned l (rowsIn w (32768 + 16 * (st .row + 1)) (st .job .p .rows - (st .row + 1)) ++ drop (st .job .p .next) es)) t
-          ∙ some-left w st zs es (fit .some) (m .left))
-          (own-put zs len a x ex (m .own)) in
-          (g .0, turns-fall room st (turns room r) last (fit .some) place (g .1))
+    -- the row is put behind the others
+    pub step-put : st .base ≤ st .at → (x : Remark) → x ≡ rowOf w (st .row) → (r : Stage) (w' : Bytes) → Passes T F size room (withCount st (st .count + 1)) w r w'
+        → Steps T F size room st old w (record { st = r; new = x }) w'
+    step-put h x ex r w' passes zs len eo inv =
+        let m : Merging T F size room st zs w = inv .0 (fit .going) in
+        let es : List Remark = metIn (m .fit .stands) in
+        let a : st .at ≡ st .count = m .settled h in
+        let acc : List Remark = take (st .count) zs in
+        let out : remarked x acc ≡ false = not-there zs x (st .count) (omega (arith, fit .count, len)) (λ k l. ap (sameRemark (getD zs k zeroRemark)) ex ∙ m .apart k (omega (arith, l, a))) in
+        let zs′ : List Remark = set zs (st .at) x in
+        let t : take (st .count + 1) zs′ ≡ noted (rowOf w (st .row)) acc =
+        ap (λ (j : ℕ). take j zs′) (add-one (st .count)) ∙ ap (λ (j : ℕ). take (suc (st .count)) (set zs j x)) a ∙ take-suc-set zs (st .count) x (omega (arith, a, place, len))
+        ∙ sym (noted-out x acc out) ∙ ap (λ (y : Remark). noted y acc) ex in
+        let g = passes (record { stands = m .fit .stands; going = fit .going; some = fit .some; count = omega (arith, a, place); base = omega (arith, fit .base) }) zs′ (length-set zs (st .at) x ∙ len)
+        (ap (λ (l : List Remark). thinned l (rowsIn w (32768 + 16 * (st .row + 1)) (st .job .p .rows - (st .row + 1)) ++ drop (st .job .p .next) es)) t
+        ∙ some-left w st zs es (fit .some) (m .left))
+        (own-put zs len a x ex (m .own)) in
+        (g .0, turns-fall room st (turns room r) (fit .going) (fit .some) place (g .1))

@@ -50,7 +50,7 @@ refusalOf j k =
       job = record { good = false; value = k; place = j .place; name = j .name; round = j .round; p = j .p };
     }
 
--- the list is full up to its zeros, and the file has n bytes
+-- the list holds all remarks, and the file has n bytes
 abbrev pub endedAt : Stage → ℕ → Stage
 endedAt st n = record { at = st .count; last = true; length = n; base = st .base; count = st .count; row = st .row; job = st .job }
 
@@ -132,11 +132,9 @@ pub record Closing (T F : Bytes) (size room : ℕ) (j : Job) (len count : ℕ) (
 
 pub record Closed (T F : Bytes) (size room : ℕ) (st : Stage) (zs : List Remark) (w : Bytes) : Type 0 where
   pub closing : Closing T F size room (st .job) (st .length) (st .count) w
-  pub upto : st .at ≤ room
-  pub behind : st .count ≤ st .at
-  pub front : take (st .at) zs ≡ filled (st .at) (remarksIn (build T F (length w) size room))
+  pub front : take (st .at) zs ≡ remarksIn (build T F (length w) size room)
 
--- a row is being merged, or zeros are being written
+-- a row is being merged, or all are
 abbrev pub Inv : Bytes → Bytes → ℕ → ℕ → Stage → List Remark → Bytes → Type 0
 Inv T F size room st zs w = (st .last ≡ false → Merging T F size room st zs w) × (st .last ≡ true → Closed T F size room st zs w)
 
@@ -145,7 +143,7 @@ abbrev pub bound : ℕ → ℕ → ℕ → ℕ → ℕ
 bound room n m at = (n + m) * (room + 1) + (room - at)
 
 unfoldable pub turns : ℕ → Stage → ℕ
-turns room st = cond (st .last) (room - st .at) (bound room (st .job .p .rows - st .row) (st .job .p .seen - st .job .p .next) (st .at))
+turns room st = cond (st .last) 0 (bound room (st .job .p .rows - st .row) (st .job .p .seen - st .job .p .next) (st .at))
 
 -- the invariant holds, with at most n turns left
 abbrev pub Goes : Bytes → Bytes → ℕ → ℕ → Stage → List Remark → Bytes → ℕ → Type 0
@@ -157,7 +155,7 @@ Goes T F size room st zs w n = Inv T F size room st zs w × (turns room st ≤ n
 abbrev pub Judges : Bytes → ℕ → Stage → Bytes → Stage → Type 0
 Judges F size st w r =
     (T : Bytes) (room : ℕ) (h : Standing T F size room (st .job) w) (zs : List Remark) → length zs ≡ room → st .count ≤ room → take (st .count) zs ≡ thin (metIn h)
-    → Goes T F size room r zs w room
+    → Goes T F size room r zs w 0
 
 -- a round runs, and its rows are taken
 abbrev pub Takes : Bytes → Bytes → ℕ → ℕ → Round → ℕ → ℕ → ℕ → Stage → Bytes → Type 0
@@ -175,7 +173,7 @@ Passes T F size room st w r w' =
 
 -- a turn: record `at` is `old`
 abbrev pub Ready : Bytes → Bytes → ℕ → ℕ → Stage → Bytes → Type 0
-Ready T F size room st w = (st .at < room) × (st .last ≡ false → Fit T F w size room st × (st .base ≤ st .at → st .at ≡ st .count))
+Ready T F size room st w = (st .at < room) × Fit T F w size room st × (st .base ≤ st .at → st .at ≡ st .count)
 
 abbrev pub Steps : Bytes → Bytes → ℕ → ℕ → Stage → Remark → Bytes → Turn → Bytes → Type 0
 Steps T F size room st old w t w' =

@@ -195,7 +195,7 @@ pub fn judged(schema: &[u8], work: &[u8], size: usize, st: Stage) -> Stage
     let mut q = st;
     q.last = true;
     q.length = n;
-    q.at = st.count;
+    q.at = q.count;
     q
 }
 

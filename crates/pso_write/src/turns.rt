@@ -91,19 +91,9 @@ pub fn turn(
     requires { ⌜ Ready (now sheet) (now schema) size room st (now work) ⌝ }
     ensures { λ t. ⌜ Steps (now (sheet .entry)) (now (schema .entry)) size room st old (now (work .entry)) t (now (work .exit)) ⌝ }
 {
-    let mut q = st;
-    if st.last {
-        q.at = st.at + 1;
-        let none = Remark {
-            kind: 0,
-            structure: 0,
-            member: 0,
-            detail: 0,
-        };
-        return Turn { st: q, new: none };
-    }
     let r = row_at(work, 32768 + 16 * st.row);
     if st.base <= st.at {
+        let mut q = st;
         q.count = st.count + 1;
         let s = passed(sheet, schema, work, size, room, q);
         return Turn { st: s, new: r };

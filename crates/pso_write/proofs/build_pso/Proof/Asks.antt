@@ -29,7 +29,7 @@ use Rattle.layout.proofs.Remark as T
 use Rattle.layout.proofs.Remark.Laws as T′
 use Rattle.pso_write.proofs.Stage as S
 use Rattle.pso_write.proofs.Stage.Laws as S′
-use Rattle.pso_write.proofs.build_pso.Proof.Types.{Load, Store, Begin, Step, Finish, IsSt}
+use Rattle.pso_write.proofs.build_pso.Proof.Types.{Load, Store, Begin, Step, Rest, Finish, IsSt}
 
 module _ {M : Type 1} (𝓤 : URA M) (H : Heap 𝓤) (A : Atoms 𝓤) (mem : Memory → SProp 𝓤) (run : Routine → Fun 𝓤) where
   abbrev pub to-load : Lft → Share → RefT (List Remark) → Val → ℕ → Load 𝓤 H A mem run .Ghost
@@ -52,6 +52,9 @@ module _ {M : Type 1} (𝓤 : URA M) (H : Heap 𝓤) (A : Atoms 𝓤) (mem : Mem
     ),
     tt,
   )
+
+  abbrev pub to-rest : Lft → Share → RefT (List Remark) → Val → ℕ → Rest 𝓤 H A mem run .Ghost
+  to-rest κ q x v i = (((κ, tt), (q, tt), tt, (x, (i, tt)), (v ∷ [], (vint w64 i ∷ [], tt))), tt)
 
   abbrev pub to-finish : (κ₀ κ₁ κ₃ κ₂ : Lft) (q₀ q₁ q₃ q₂ : Share) (v₀ v₁ z y : RefT (List ℕ)) (s₀ s₁ s₃ s₂ : Val) → ℕ → St → Finish 𝓤 H A mem run .Ghost
   to-finish κ₀ κ₁ κ₃ κ₂ q₀ q₁ q₃ q₂ v₀ v₁ z y s₀ s₁ s₃ s₂ N st = (
@@ -94,6 +97,13 @@ module _ {M : Type 1} (𝓤 : URA M) (H : Heap 𝓤) (A : Atoms 𝓤) (W : Given
       nothing ! $ move ! (5 ∷ 0 ∷ []) $ join ! $ move ! (4 ∷ 0 ∷ []) $ join ! $ move ! (4 ∷ 0 ∷ []) $ join ! $ frame ! $
       nothing ! $ owned ! T.the-row (Is T.the-row) (LL.makes T.the-type T′.the-plain 𝓤 H A) r _ gr $ fjoin ! $ owned ! S.the-row (Is S.the-row) (LL.makes S.the-type S′.the-plain 𝓤 H A) st _ gs $ fjoin ! $ owned ! usize (Is usize) (uint-makes 𝓤 H A W w64) N _ (refl, fits) $ fjoin ! $ owned ! usize (Is usize) (uint-makes 𝓤 H A W w64) B _ (refl, mfits) $ fjoin ! $
       move ! (2 ∷ 0 ∷ []) $ fjoin ! $ move ! (1 ∷ 0 ∷ []) $ fjoin ! $ move ! (1 ∷ 0 ∷ []) $ fjoin ! $ done !
+
+  pub asks-rest : (κ : Lft) (q : Share) (x : RefT (List Remark)) (v : Val) (i : ℕ) → Is usize i (vint w64 i ∷ []) → ent 𝓤 (sep 𝓤 (A .lft κ q) (sem 𝓤 H A (MutSlice (named 0) κ T.the-row .own x (v ∷ [])))) (Rest 𝓤 H A mem run .pre (to-rest 𝓤 H A mem run κ q x v i))
+  asks-rest κ q x v i g =
+      qed W (‵ (flft κ q) ∷ ‵ (MutSlice (named 0) κ T.the-row .own x (v ∷ [])) ∷ []) ∵
+      nothing ! $ move ! (1 ∷ 0 ∷ []) $ join ! $
+      nothing ! $ owned ! usize (Is usize) (uint-makes 𝓤 H A W w64) i _ g $ fjoin ! $
+      move ! (2 ∷ 0 ∷ []) $ fjoin ! $ move ! (1 ∷ 0 ∷ []) $ join ! $ frame ! $ done !
 
   pub asks-finish : (κ₀ κ₁ κ₃ κ₂ : Lft) (q₀ q₁ q₃ q₂ : Share) (v₀ v₁ z y : RefT (List ℕ)) (s₀ s₁ s₃ s₂ : Val) (N : ℕ) (st : St) → N < 2 ^ 64 → IsSt st → Closing (v₀ .now) (v₁ .now) (length (z .now)) N (st .job) (st .length) (st .count) (y .now) → ent 𝓤 (sep 𝓤 (sep 𝓤 (A .lft κ₀ q₀) (sep 𝓤 (A .lft κ₁ q₁) (sep 𝓤 (A .lft κ₃ q₃) (A .lft κ₂ q₂)))) (sep 𝓤 (sem 𝓤 H A (ShrSlice (named 0) κ₀ u8 .own v₀ (s₀ ∷ []))) (sep 𝓤 (sem 𝓤 H A (ShrSlice (named 1) κ₁ u8 .own v₁ (s₁ ∷ []))) (sep 𝓤 (sem 𝓤 H A (MutSlice (named 3) κ₃ u8 .own z (s₃ ∷ []))) (sem 𝓤 H A (MutSlice (named 2) κ₂ u8 .own y (s₂ ∷ []))))))) (Finish 𝓤 H A mem run .pre (to-finish 𝓤 H A mem run κ₀ κ₁ κ₃ κ₂ q₀ q₁ q₃ q₂ v₀ v₁ z y s₀ s₁ s₃ s₂ N st))
   asks-finish κ₀ κ₁ κ₃ κ₂ q₀ q₁ q₃ q₂ v₀ v₁ z y s₀ s₁ s₃ s₂ N st fits gs need =

@@ -1,35 +1,51 @@
 -- The loop's state, and what a turn and the end make of it. Assumes nothing.
 use mathlib.Core.Path.{_≡_, refl, sym, subst, _∙_}
-use mathlib.Core.Bool.{not}
+use mathlib.Core.Bool.{Bool, true, false, not}
 use mathlib.Core.WellFounded.{WellFounded, InvImage·wf}
 use Prim.Native.Nat.{ℕ, _<_}
 use mathlib.Core.List.{[], _∷_, List}
-use lib.ListN.{length, getD, set}
+use lib.ListN.{length, getD, set, take}
 use lib.WfN.{Nat·lt-wfRel}
-use lib.Dec.{T as Holds, ltb, nltb→le}
-use mir.Val.{Val}
+use lib.Dec.{T as Holds}
+use mir.Syntax.{w64}
+use mir.Val.{Val, vint}
 use denote.Laws.{Is}
+use denote.Builtin.{usize}
 use denote.Struct.Laws as LL
 use Rattle.layout.specs.Build.{zeroRemark, buildPso}
 use Rattle.layout.specs.declared.Remark.{Remark}
 use Rattle.pso_write.specs.Answers.{leaves}
-use Rattle.pso_write.specs.Merge.{Closing, Inv, turns as turns-left, Steps, Ends}
+use Rattle.pso_write.specs.Merge.{filled, Closing, Inv, turns as turns-left, Ready, Steps, Ends}
 use Rattle.pso_write.specs.declared.Built.{Built}
 use Rattle.pso_write.specs.declared.Stage.{Stage as St}
 use Rattle.pso_write.specs.declared.Turn.{Turn}
 use Rattle.pso_write.proofs.Endings.{ready, leaves-all}
 use Rattle.layout.proofs.Remark as T
 use Rattle.layout.proofs.Remark.Laws as T′
+use Rattle.pso_write.proofs.Stage as S
+use Rattle.pso_write.proofs.Stage.Laws as S′
 use Rattle.pso_write.proofs.Turn as U
 use Rattle.pso_write.proofs.Turn.Laws as U′
 use Rattle.pso_write.proofs.build_pso.Proof.Types.{IsSt}
 
--- parts of a turn
+-- tests
+is-false : (b : Bool) → Holds (not b) → b ≡ false
+is-false true h = absurd h
+is-false false h = refl
+
+is-true : (b : Bool) → Holds (not (not b)) → b ≡ true
+is-true true h = refl
+is-true false h = absurd h
+
+-- parts of a turn, and of a stage
 pub st-is : (u : Turn) (w : Val) → Is U.the-row u (w ∷ []) → IsSt (u .st)
 st-is u w is = LL.owed U.the-type U′.the-laws u _ is .0
 
 pub new-is : (u : Turn) (w : Val) → Is U.the-row u (w ∷ []) → Is T.the-row (u .new) (T′.lowered (u .new) ∷ [])
 new-is u w is = LL.owed U.the-type U′.the-laws u _ is .1 .0
+
+pub at-is : (st : St) → IsSt st → Is usize (st .at) (vint w64 (st .at) ∷ [])
+at-is st is = LL.owed S.the-type S′.the-laws st _ is .0
 
 module _ (T F : List ℕ) (N L : ℕ) (os : List ℕ) where
   abbrev B : ℕ
@@ -64,9 +80,14 @@ module _ (T F : List ℕ) (N L : ℕ) (os : List ℕ) where
   pub falls : (t : State) (r : Remark) (u : Turn) (us : List ℕ) → r ≡ getD (t .1 .0) (t .0 .at) zeroRemark → Steps T F B N (t .0) r (t .1 .1 .0) u us → turns-left N (u .st) < turns-left N (t .0)
   falls t r u us e s = after-turn t r u us e s .1
 
-  pub finish-ready : (t : State) → Holds (not (ltb (t .0 .at) N)) → Closing T F B N (t .0 .job) (t .0 .length) (t .0 .count) (t .1 .1 .0)
-  finish-ready t over = ready T F B N (t .0) (t .1 .0) (t .1 .1 .0) (t .1 .1 .1 .1 .0) (t .1 .1 .1 .1 .1 .1) (nltb→le (t .0 .at) N over)
+  -- a turn can be taken
+  pub turn-ready : (t : State) → Holds (not (t .0 .last)) → Ready T F B N (t .0) (t .1 .1 .0)
+  turn-ready t less = let m = t .1 .1 .1 .1 .1 .1 .0 (is-false (t .0 .last) less) in (m .place, m .fit, m .settled)
 
-  pub said : (t : State) → Holds (not (ltb (t .0 .at) N)) → (r : Built) (os′ : List ℕ) (us : List ℕ) → Finished (t .1 .1 .0) r os′ us → Said r (t .1 .0) os′ us
-  said t over r os′ us e =
-      leaves-all T F B N (t .0) (t .1 .0) (t .1 .1 .0) (t .1 .1 .1 .1 .0) (t .1 .1 .1 .1 .1 .1) (nltb→le (t .0 .at) N over) L (t .1 .1 .1 .1 .1 .0) os refl r os′ us e
+  -- the end
+  pub finish-ready : (t : State) → Holds (not (not (t .0 .last))) → Closing T F B N (t .0 .job) (t .0 .length) (t .0 .count) (t .1 .1 .0)
+  finish-ready t over = ready T F B N (t .0) (t .1 .0) (t .1 .1 .0) (t .1 .1 .1 .1 .0) (t .1 .1 .1 .1 .1 .1) (is-true (t .0 .last) over)
+
+  pub said : (t : State) → Holds (not (not (t .0 .last))) → (zs : List Remark) → zs ≡ filled (length (t .1 .0)) (take (t .0 .at) (t .1 .0)) → (r : Built) (os′ : List ℕ) (us : List ℕ) → Finished (t .1 .1 .0) r os′ us → Said r zs os′ us
+  said t over zs f r os′ us e =
+      leaves-all T F B N (t .0) (t .1 .0) (t .1 .1 .0) (t .1 .1 .1 .1 .0) (t .1 .1 .1 .1 .1 .1) (is-true (t .0 .last) over) zs f L (t .1 .1 .1 .1 .1 .0) os refl r os′ us e

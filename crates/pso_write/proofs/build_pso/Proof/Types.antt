@@ -25,6 +25,7 @@ use Rattle.pso_write.proofs.load as load′
 use Rattle.pso_write.proofs.store as store′
 use Rattle.pso_write.proofs.turns.first as begin′
 use Rattle.pso_write.proofs.turns.turn as step′
+use Rattle.pso_write.proofs.zero_rest as rest′
 use Rattle.pso_write.proofs.turns.last as finish′
 use Rattle.pso_write.proofs.build_pso as build_pso
 use Rattle.pso_write.proofs.build_pso.Code.Mir as body
@@ -45,6 +46,9 @@ module _ {M : Type 1} (𝓤 : URA M) (H : Heap 𝓤) (A : Atoms 𝓤) (mem : Mem
 
   abbrev pub Step : Contract 𝓤
   Step = tripleOf 𝓤 H A step′.signature (step′.spec 𝓤 H A mem run)
+
+  abbrev pub Rest : Contract 𝓤
+  Rest = tripleOf 𝓤 H A rest′.signature (rest′.spec 𝓤 H A mem run)
 
   abbrev pub Finish : Contract 𝓤
   Finish = tripleOf 𝓤 H A finish′.signature (finish′.spec 𝓤 H A mem run)
