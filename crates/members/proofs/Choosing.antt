@@ -121,7 +121,7 @@ named-bytes T F true at n k r = refl
 named-bytes T F false at n k r = refl
 
 module _ (T F : Bytes) (S : Schema) (R : Round) (d : StructDef) (e : Defs.Member) (v : Value) (buf : Bytes) (s : State) where
-  scalar-cell : (x : Kinds.Scalar) → scalarMember (envOf T S R) x d e v buf s ≡ cellMember (envOf T S R) (Kinds.sizeOf x) (cellBytes T F (scalarCell x)) false 0 d e v buf s
+  pub scalar-cell : (x : Kinds.Scalar) → scalarMember (envOf T S R) x d e v buf s ≡ cellMember (envOf T S R) (Kinds.sizeOf x) (cellBytes T F (scalarCell x)) false 0 d e v buf s
   unfolding scalarMember cellMember
   scalar-cell x =
       need-same d e (Kinds.sizeOf x) buf (fitM (Kinds.scalarBytes T x (valueRow T v)) (wrong d e v buf) λ bs. ret (over buf (e .offset) bs))
@@ -129,14 +129,14 @@ module _ (T F : Bytes) (S : Schema) (R : Round) (d : StructDef) (e : Defs.Member
       (fit-fit (Kinds.scalarBytes T x (valueRow T v)) (wrong d e v buf) buf (e .offset) s
       ∙ ap (λ (y : Fit Bytes). fitM y (wrong d e v buf) (stores buf (e .offset)) s) (scalar-bytes T F x (valueRow T v)))
 
-  fixed-cell : fixedMember (envOf T S R) d e v buf s ≡ cellMember (envOf T S R) (high16 (e .reference)) (cellBytes T F (C.Fixed (high16 (e .reference)))) false 0 d e v buf s
+  pub fixed-cell : fixedMember (envOf T S R) d e v buf s ≡ cellMember (envOf T S R) (high16 (e .reference)) (cellBytes T F (C.Fixed (high16 (e .reference)))) false 0 d e v buf s
   unfolding fixedMember cellMember cellBytes
   fixed-cell =
       need-same d e (high16 (e .reference)) buf (optM (strOf T (valueRow T v)) (wrong d e v buf) λ t. ret (over buf (e .offset) (take (high16 (e .reference) - 1) t)))
       (fitM (cellBytes T F (C.Fixed (high16 (e .reference))) (valueRow T v)) (wrong d e v buf) (stores buf (e .offset))) s
       (opt-fit (take (high16 (e .reference) - 1)) (strOf T (valueRow T v)) (wrong d e v buf) buf (e .offset) s)
 
-  hash-cell : hashMember (envOf T S R) d e v buf s ≡ cellMember (envOf T S R) 4 (cellBytes T F C.Hash) false 0 d e v buf s
+  pub hash-cell : hashMember (envOf T S R) d e v buf s ≡ cellMember (envOf T S R) 4 (cellBytes T F C.Hash) false 0 d e v buf s
   unfolding hashMember cellMember cellBytes
   hash-cell =
       need-same d e 4 buf (optM (hashOf T (valueRow T v)) (wrong d e v buf) λ h. ret (over buf (e .offset) (bytesOf 4 h)))
@@ -144,7 +144,7 @@ module _ (T F : Bytes) (S : Schema) (R : Round) (d : StructDef) (e : Defs.Member
       (opt-fit (bytesOf 4) (hashOf T (valueRow T v)) (wrong d e v buf) buf (e .offset) s)
 
   -- the entries are those at a place, and the enum is known or not
-  named-cell : (flags known : Bool) (h at n : ℕ) → isSome (winning S .enum h) ≡ known → entriesOf (winning S) h ≡ entriesAt F n at
+  pub named-cell : (flags known : Bool) (h at n : ℕ) → isSome (winning S .enum h) ≡ known → entriesOf (winning S) h ≡ entriesAt F n at
       → posts.namedMember flags (envOf T S R) h d e v buf s
       ≡ cellMember (envOf T S R) (enumSize (e .subtype)) (cellBytes T F (namedCell flags at n (enumSize (e .subtype)))) known h d e v buf s
   unfolding namedMember cellMember useEnumOf
@@ -176,26 +176,12 @@ pub named-sane : (flags : Bool) (at n k : ℕ) → at < 2 ^ 63 → n < 2 ^ 24 �
 named-sane true at n k a b c = ((a, b, c), refl)
 named-sane false at n k a b c = ((a, b, c), refl)
 
-seven-eight : (x : ℕ) → 7 ≤ x → x < 9 → eqb x 7 || eqb x 8 ≡ true
-seven-eight x h g = go (eqb x 7) refl
-  where
-    go : (b : Bool) → eqb x 7 ≡ b → b || eqb x 8 ≡ true
-    go true e = refl
-    go false e = eq-eqb x 8 (let z : x ≡ 7 → ⊥ = eqb-false x 7 e in omega (arith, z))
-
 module _ (R : Round) (n : ℕ) (p : Progress) (w T F : Bytes) (d : Def) (m : coded.Member) (v : Value) where
   abbrev D : StructDef
   D = defOf F d
 
   abbrev e : Defs.Member
   e = memberOf m
-
-  -- no enum is used
-  abbrev plainly : ℕ → Schema → Type 0
-  plainly name S = false ≡ true → isSome (winning S .enum name) ≡ true
-
-  plainly-so : (name : ℕ) (S : Schema) → plainly name S
-  plainly-so name S z = absurd (false≢true z)
 
   -- a text by pointer that does not fit
   pub pointer-long : (q : Progress) (w' : Bytes) → Safe R n p → Open p → leb (m .offset + slotSize (m .subtype)) (d .size) ≡ false → Notes R n p w (remarkOn d m 1 (d .size)) q w'
@@ -240,134 +226,3 @@ module _ (R : Round) (n : ℕ) (p : Progress) (w T F : Bytes) (d : Def) (m : cod
             rw (pointer-is (some t) i S buf s)
             (subst (λ (k : ℕ). Meets S R n (λ b. σ ++ b) (λ b x. length b ≡ k) (textSlot (envOf T S R) (m .subtype) t buf (m .offset) s) (wroteIs r) w') l
             (a .says S T s σ buf (m .offset) (omega (arith, q .top, b)) (omega arith) q))
-
-  -- a text by its subtype
-  text-as : (known : Schema → Type 0) (g : Schema → Bytes → M Bytes) (r : Wrote) (w' : Bytes) → ((S : Schema) → known S)
-      → ((S : Schema) (buf : Bytes) (s : State) → textMember (envOf T S R) D e v buf s ≡ g S buf s) → Fills known R n p w (d .size) g r w'
-      → Fills anySchema R n p w (d .size) (λ S buf. textMember (envOf T S R) D e v buf) r w'
-  text-as known g r w' k h a = fills-as R n p w anySchema known (d .size) (λ S buf. textMember (envOf T S R) D e v buf) g r w' (λ S z. (k S, λ buf s. h S buf s)) a
-
-  fixed-is : (S : Schema) (buf : Bytes) → m .subtype ≡ 0 → textMember (envOf T S R) D e v buf ≡ fixedMember (envOf T S R) D e v buf
-  unfolding textMember ifM
-  fixed-is S buf h = rw h refl
-
-  pub text-fixed : (len : ℕ) (r : Wrote) (w' : Bytes) → m .subtype ≡ 0 → len ≡ high16 (m .reference)
-      → Fills (plainly 0) R n p w (d .size) (λ S buf. cellMember (envOf T S R) len (cellBytes T F (C.Fixed len)) false 0 D e v buf) r w'
-      → Fills anySchema R n p w (d .size) (λ S buf. textMember (envOf T S R) D e v buf) r w'
-  text-fixed len r w' h g a =
-      text-as (plainly 0) (λ S buf. cellMember (envOf T S R) len (cellBytes T F (C.Fixed len)) false 0 D e v buf) r w' (plainly-so 0)
-      (λ S buf s. ap (λ (x : M Bytes). x s) (fixed-is S buf h) ∙ rw g (fixed-cell T F S R D e v buf s)) a
-
-  pointed-is : (S : Schema) (buf : Bytes) → (m .subtype ≡ 0 → ⊥) → m .subtype < 4 → textMember (envOf T S R) D e v buf ≡ pointerMember (envOf T S R) D e v buf
-  unfolding textMember ifM
-  pointed-is S buf h g = rw (ne-eqb (m .subtype) 0 h, le-leb 1 (m .subtype) (omega (arith, h)), le-leb (m .subtype) 3 (omega arith)) refl
-
-  pub text-pointed : (r : Wrote) (w' : Bytes) → (m .subtype ≡ 0 → ⊥) → m .subtype < 4 → Fills anySchema R n p w (d .size) (λ S buf. pointerMember (envOf T S R) D e v buf) r w'
-      → Fills anySchema R n p w (d .size) (λ S buf. textMember (envOf T S R) D e v buf) r w'
-  text-pointed r w' h g a = text-as anySchema (λ S buf. pointerMember (envOf T S R) D e v buf) r w' (λ S. tt) (λ S buf s. ap (λ (x : M Bytes). x s) (pointed-is S buf h g)) a
-
-  hashed-is : (S : Schema) (buf : Bytes) → 7 ≤ m .subtype → m .subtype < 9 → textMember (envOf T S R) D e v buf ≡ hashMember (envOf T S R) D e v buf
-  unfolding textMember ifM
-  hashed-is S buf h g =
-      rw (ne-eqb (m .subtype) 0 (λ z. omega (arith, z)), le-leb 1 (m .subtype) (omega arith), lt-leb (m .subtype) 3 (omega arith), seven-eight (m .subtype) h g) refl
-
-  pub text-hashed : (r : Wrote) (w' : Bytes) → 7 ≤ m .subtype → m .subtype < 9
-      → Fills (plainly 0) R n p w (d .size) (λ S buf. cellMember (envOf T S R) 4 (cellBytes T F C.Hash) false 0 D e v buf) r w'
-      → Fills anySchema R n p w (d .size) (λ S buf. textMember (envOf T S R) D e v buf) r w'
-  text-hashed r w' h g a =
-      text-as (plainly 0) (λ S buf. cellMember (envOf T S R) 4 (cellBytes T F C.Hash) false 0 D e v buf) r w' (plainly-so 0)
-      (λ S buf s. ap (λ (x : M Bytes). x s) (hashed-is S buf h g) ∙ hash-cell T F S R D e v buf s) a
-
-  strange-is : (S : Schema) (buf : Bytes) → 4 ≤ m .subtype → (m .subtype < 7) ⊎ (9 ≤ m .subtype) → textMember (envOf T S R) D e v buf ≡ leaves D e 3 (m .subtype) buf
-  unfolding textMember ifM
-  strange-is S buf h g =
-      rw (
-        ne-eqb (m .subtype) 0 (λ z. omega (arith, z)),
-        le-leb 1 (m .subtype) (omega arith),
-        lt-leb (m .subtype) 3 (omega arith),
-        ne-eqb (m .subtype) 7 (far 7 (λ l. omega (arith, l)) (λ l. omega (arith, l)) g),
-        ne-eqb (m .subtype) 8 (far 8 (λ l. omega (arith, l)) (λ l. omega (arith, l)) g),
-      ) refl
-    where
-      far : (k : ℕ) → (k < 7 → ⊥) → (9 ≤ k → ⊥) → (m .subtype < 7) ⊎ (9 ≤ m .subtype) → m .subtype ≡ k → ⊥
-      far k a b (inl l) z = a (omega (arith, z))
-      far k a b (inr l) z = b (omega (arith, z))
-
-  pub text-strange : (q : Progress) (w' : Bytes) → Safe R n p → Open p → 4 ≤ m .subtype → (m .subtype < 7) ⊎ (9 ≤ m .subtype) → Notes R n p w (remarkOn d m 3 (m .subtype)) q w'
-      → Fills anySchema R n p w (d .size) (λ S buf. textMember (envOf T S R) D e v buf) (Done q) w'
-  text-strange q w' h o a b t =
-      text-as anySchema (λ S buf. leaves D e 3 (m .subtype) buf) (Done q) w' (λ S. tt) (λ S buf s. ap (λ (x : M Bytes). x s) (strange-is S buf a b))
-      (said R n p w anySchema (d .size) F d m 3 (m .subtype) q w' h o t)
-
-  -- the schema is read from the file
-  abbrev read : Schema → Type 0
-  read S = schemaOf F ≡ ok S
-
-  -- flags or an enum by the entries of an enum that is not there
-  pub named-none : (flags : Bool) (h k : ℕ) (f : Found) (r : Wrote) (w' : Bytes) → k ≡ enumSize (m .subtype) → ((S : Schema) → schemaOf F ≡ ok S → winning S .enum h ≡ enumFound F h f) → f ≡ Nothing
-      → Fills (plainly h) R n p w (d .size) (λ S buf. cellMember (envOf T S R) k (cellBytes T F (namedCell flags 0 0 k)) false h D e v buf) r w'
-      → Fills read R n p w (d .size) (λ S buf. posts.namedMember flags (envOf T S R) h D e v buf) r w'
-  unfolding entriesAt
-  named-none flags h k f r w' g i z a =
-      fills-as R n p w read (plainly h) (d .size) (λ S buf. posts.namedMember flags (envOf T S R) h D e v buf)
-      (λ S buf. cellMember (envOf T S R) k (cellBytes T F (namedCell flags 0 0 k)) false h D e v buf) r w'
-      (λ S y.
-      let u : winning S .enum h ≡ none = i S y ∙ ap (enumFound F h) z in
-      (plainly-so h S, λ buf s. rw g (named-cell T F S R D e v buf s flags false h 0 0 (ap isSome u) (ap (λ (o : Option Defs.EnumDef). orValue (mapOption (λ x. x .entries) o) []) u)))) a
-
-  -- .. of one that is there
-  pub named-some : (flags : Bool) (h k at from count : ℕ) (f : Found) (r : Wrote) (w' : Bytes) → k ≡ enumSize (m .subtype)
-      → ((S : Schema) → schemaOf F ≡ ok S → winning S .enum h ≡ enumFound F h f) → f ≡ At at → count ≡ readAt 3 F (at + 1) → ((c : ℕ) → entriesAt F c from ≡ entriesAt F c (at + 4))
-      → Fills (λ S. true ≡ true → isSome (winning S .enum h) ≡ true) R n p w (d .size) (λ S buf. cellMember (envOf T S R) k (cellBytes T F (namedCell flags from count k)) true h D e v buf) r w'
-      → Fills read R n p w (d .size) (λ S buf. posts.namedMember flags (envOf T S R) h D e v buf) r w'
-  unfolding enumHere
-  named-some flags h k at from count f r w' g i z l j a =
-      fills-as R n p w read (λ S. true ≡ true → isSome (winning S .enum h) ≡ true) (d .size) (λ S buf. posts.namedMember flags (envOf T S R) h D e v buf)
-      (λ S buf. cellMember (envOf T S R) k (cellBytes T F (namedCell flags from count k)) true h D e v buf) r w'
-      (λ S y.
-      let u : winning S .enum h ≡ some (enumHere F h at) = i S y ∙ ap (enumFound F h) z in
-      let q : entriesOf (winning S) h ≡ entriesAt F count from =
-      ap (λ (o : Option Defs.EnumDef). orValue (mapOption (λ x. x .entries) o) []) u ∙ ap (λ (c : ℕ). entriesAt F c (at + 4)) (sym l) ∙ sym (j count) in
-      ((λ t. ap isSome u), λ buf s. rw g (named-cell T F S R D e v buf s flags true h from count (ap isSome u) q))) a
-
-  -- a member by its kind
-  pub plain-kind : (known : Schema → Type 0) (x k : Kind) (r : Wrote) (w' : Bytes) → kindIs x ≡ Kinds.kindOf (m .kind) → x ≡ k
-      → Fills known R n p w (d .size) (λ S buf. plainMember (envOf T S R) D e (kindIs k) v buf) r w'
-      → Fills known R n p w (d .size) (λ S buf. plainMember (envOf T S R) D e (Kinds.kindOf (m .kind)) v buf) r w'
-  plain-kind known x k r w' h g a = subst (λ (y : Kinds.Kind). Fills known R n p w (d .size) (λ S buf. plainMember (envOf T S R) D e y v buf) r w') (ap kindIs (sym g) ∙ h) a
-
-  pub plain-scalar : (x : Kinds.Scalar) (r : Wrote) (w' : Bytes)
-      → Fills (plainly 0) R n p w (d .size) (λ S buf. cellMember (envOf T S R) (Kinds.sizeOf x) (cellBytes T F (scalarCell x)) false 0 D e v buf) r w'
-      → Fills read R n p w (d .size) (λ S buf. plainMember (envOf T S R) D e (Kinds.scalar x) v buf) r w'
-  unfolding plainMember
-  plain-scalar x r w' a =
-      fills-as R n p w read (plainly 0) (d .size) (λ S buf. plainMember (envOf T S R) D e (Kinds.scalar x) v buf)
-      (λ S buf. cellMember (envOf T S R) (Kinds.sizeOf x) (cellBytes T F (scalarCell x)) false 0 D e v buf) r w' (λ S z. (plainly-so 0 S, λ buf s. scalar-cell T F S R D e v buf s x)) a
-
-  pub plain-text : (r : Wrote) (w' : Bytes) → Fills anySchema R n p w (d .size) (λ S buf. textMember (envOf T S R) D e v buf) r w'
-      → Fills read R n p w (d .size) (λ S buf. plainMember (envOf T S R) D e Kinds.text v buf) r w'
-  unfolding plainMember
-  plain-text r w' a =
-      fills-as R n p w read anySchema (d .size) (λ S buf. plainMember (envOf T S R) D e Kinds.text v buf) (λ S buf. textMember (envOf T S R) D e v buf) r w' (λ S z. (tt, λ buf s. refl)) a
-
-  pub plain-enum : (r : Wrote) (w' : Bytes) → Fills read R n p w (d .size) (λ S buf. posts.namedMember false (envOf T S R) (m .reference) D e v buf) r w'
-      → Fills read R n p w (d .size) (λ S buf. plainMember (envOf T S R) D e Kinds.enumeration v buf) r w'
-  unfolding plainMember enumMember
-  plain-enum r w' a = a
-
-  pub plain-flags : (h : ℕ) (r : Wrote) (w' : Bytes) → h ≡ referenceAt D (low12 (m .reference)) → Fills read R n p w (d .size) (λ S buf. posts.namedMember true (envOf T S R) h D e v buf) r w'
-      → Fills read R n p w (d .size) (λ S buf. plainMember (envOf T S R) D e Kinds.flags v buf) r w'
-  unfolding plainMember flagsMember
-  plain-flags h r w' g a = subst (λ (y : ℕ). Fills read R n p w (d .size) (λ S buf. posts.namedMember true (envOf T S R) y D e v buf) r w') g a
-
-  -- a structure, an array or a map is left to others
-  pub plain-left : (k : Kinds.Kind) → Safe R n p → (k ≡ Kinds.structure) ⊎ ((k ≡ Kinds.array) ⊎ (k ≡ Kinds.map)) → Fills read R n p w (d .size) (λ S buf. plainMember (envOf T S R) D e k v buf) (Done p) w
-  unfolding plainMember
-  plain-left k h (inl z) = rw z (stays R n p w read (d .size) h)
-  plain-left k h (inr (inl z)) = rw z (stays R n p w read (d .size) h)
-  plain-left k h (inr (inr z)) = rw z (stays R n p w read (d .size) h)
-
-  pub plain-other : (q : Progress) (w' : Bytes) → Safe R n p → Open p → Notes R n p w (remarkOn d m 13 (m .kind)) q w'
-      → Fills read R n p w (d .size) (λ S buf. plainMember (envOf T S R) D e Kinds.other v buf) (Done q) w'
-  unfolding plainMember
-  plain-other q w' h o t = said R n p w read (d .size) F d m 13 (m .kind) q w' h o t

@@ -5,6 +5,7 @@ pub mod Looking
 pub mod Filling
 pub mod Slotting
 pub mod Choosing
+pub mod Planning
 pub mod Loops
 pub mod CellRuns
 pub mod Elements

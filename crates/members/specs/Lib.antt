@@ -2,3 +2,4 @@
 pub mod Names
 pub mod Cells
 pub mod Posts
+pub mod Plans

@@ -22,6 +22,7 @@ ghost use Rattle.members.specs.Posts.{remarkOn, paidIs};
 pub mod cells;
 pub mod kinds;
 pub mod member;
+pub mod plan;
 pub mod runs;
 pub mod slots;
 

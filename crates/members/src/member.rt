@@ -4,13 +4,10 @@ use crate::Wrote;
 use crate::cells::Cell;
 use crate::cells::Put;
 use crate::cells::put_cell;
-use crate::kinds::Kind;
-use crate::kinds::kind_of;
 use crate::kinds::type_number;
-use crate::reference_at;
+use crate::plan::Plan;
+use crate::plan::plan_of;
 use crate::say;
-use crate::slots::entries_at;
-use crate::slots::high_half;
 use crate::slots::slot_size;
 use crate::slots::text_slot;
 use area::Progress;
@@ -18,10 +15,7 @@ use area::Round;
 use area::used::use_enum;
 use coerce::whole::has_str;
 use coerce::whole::str_of;
-use schema::lookup::Found as Place;
-use schema::lookup::find_enum;
 use schema::members::Member;
-use schema::members::entry_count;
 use value::Found;
 use value::Row;
 use value::value_row;
@@ -141,137 +135,7 @@ fn write_pointer(
     text_slot(work, round, p, m.subtype, str_of(sheet, row), at)
 }
 
-// A text, by its subtype.
-fn write_text(
-    sheet: &[u8],
-    schema: &[u8],
-    work: &mut [u8],
-    round: Round,
-    p: Progress,
-    d: Def,
-    m: Member,
-    v: Found,
-) -> Wrote
-    requires { ⌜ Safe round (length (now work)) p × Open p ⌝ }
-    requires { ⌜ Buffer round p (d .size) ⌝ }
-    ensures { λ r. ⌜ Fills anySchema round (length (now (work .entry))) p (now (work .entry)) (d .size)
-        (λ S buf. Members.textMember (envOf (now (sheet .entry)) S round) (defOf (now (schema .entry)) d) (memberOf m) (valueIs v) buf) r (now (work .exit)) ⌝ }
-{
-    let sub = m.subtype;
-    match sub {
-        0 => {
-            let len = high_half(m.reference) as usize;
-            write_cell(
-                sheet,
-                schema,
-                work,
-                round,
-                p,
-                d,
-                m,
-                v,
-                Cell::Fixed(len),
-                len,
-                false,
-                0,
-            )
-        }
-        1..=3 => write_pointer(sheet, schema, work, round, p, d, m, v),
-        7 | 8 => write_cell(
-            sheet,
-            schema,
-            work,
-            round,
-            p,
-            d,
-            m,
-            v,
-            Cell::Hash,
-            4,
-            false,
-            0,
-        ),
-        _ => Wrote::Done(say(work, round, p, d, m, 3, m.subtype as u32)),
-    }
-}
-
-// How many bytes an enum or flags member has.
-fn enum_size(sub: u8) -> usize
-    ensures { λ r. ⌜ (r ≡ Members.enumSize sub) × (r ≤ 4) ⌝ }
-{
-    match sub {
-        0 => 4,
-        1 => 2,
-        _ => 1,
-    }
-}
-
-// Flags or an enum's value.
-fn named_cell(flags: bool, at: usize, n: usize, k: usize) -> Cell
-    ensures { λ r. ⌜ r ≡ namedCell flags at n k ⌝ }
-{
-    if flags {
-        return Cell::Flags(at, n, k);
-    }
-    Cell::Enum(at, n, k)
-}
-
-// An enum or flags member, by the entries of the enum h.
-fn write_named(
-    sheet: &[u8],
-    schema: &[u8],
-    work: &mut [u8],
-    round: Round,
-    p: Progress,
-    d: Def,
-    m: Member,
-    v: Found,
-    h: u32,
-    flags: bool,
-) -> Wrote
-    requires { ⌜ Safe round (length (now work)) p × Open p ⌝ }
-    requires { ⌜ Buffer round p (d .size) ⌝ }
-    ensures { λ r. ⌜ Fills (λ S. schemaOf (now (schema .entry)) ≡ ok S) round (length (now (work .entry))) p (now (work .entry)) (d .size)
-        (λ S buf. namedMember flags (envOf (now (sheet .entry)) S round) h (defOf (now (schema .entry)) d) (memberOf m) (valueIs v) buf) r (now (work .exit)) ⌝ }
-{
-    let k = enum_size(m.subtype);
-    match find_enum(schema, h) {
-        Place::Nothing => write_cell(
-            sheet,
-            schema,
-            work,
-            round,
-            p,
-            d,
-            m,
-            v,
-            named_cell(flags, 0, 0, k),
-            k,
-            false,
-            h,
-        ),
-        Place::At(at) => {
-            let n = entry_count(schema, at) as usize;
-            let from = entries_at(schema, at);
-            write_cell(
-                sheet,
-                schema,
-                work,
-                round,
-                p,
-                d,
-                m,
-                v,
-                named_cell(flags, from, n, k),
-                k,
-                true,
-                h,
-            )
-        }
-    }
-}
-
-// A member that leads to no structure, by its kind; any other kind is left to the writers of structures.
+// A member that leads to no structure, as planned; any other kind is left to the writers of structures. One place writes all cells.
 pub fn write_plain(
     sheet: &[u8],
     schema: &[u8],
@@ -287,8 +151,8 @@ pub fn write_plain(
     ensures { λ r. ⌜ Fills (λ S. schemaOf (now (schema .entry)) ≡ ok S) round (length (now (work .entry))) p (now (work .entry)) (d .size)
         (λ S buf. plainMember (envOf (now (sheet .entry)) S round) (defOf (now (schema .entry)) d) (memberOf m) (Kinds.kindOf (m .kind)) (valueIs v) buf) r (now (work .exit)) ⌝ }
 {
-    match kind_of(m.kind) {
-        Kind::Integer(k) => write_cell(
+    match plan_of(schema, d, m) {
+        Plan::Store(cell, need, known, name) => write_cell(
             sheet,
             schema,
             work,
@@ -297,59 +161,13 @@ pub fn write_plain(
             d,
             m,
             v,
-            Cell::Integer(k),
-            k,
-            false,
-            0,
+            cell,
+            need,
+            known,
+            name,
         ),
-        Kind::Single => write_cell(
-            sheet,
-            schema,
-            work,
-            round,
-            p,
-            d,
-            m,
-            v,
-            Cell::Single,
-            4,
-            false,
-            0,
-        ),
-        Kind::Vector(n) => write_cell(
-            sheet,
-            schema,
-            work,
-            round,
-            p,
-            d,
-            m,
-            v,
-            Cell::Vector(n),
-            4 * n,
-            false,
-            0,
-        ),
-        Kind::Text => write_text(sheet, schema, work, round, p, d, m, v),
-        Kind::Enumeration => write_named(
-            sheet,
-            schema,
-            work,
-            round,
-            p,
-            d,
-            m,
-            v,
-            m.reference,
-            false,
-        ),
-        Kind::Flags => {
-            let h = reference_at(schema, d, m.reference % 4096);
-            write_named(sheet, schema, work, round, p, d, m, v, h, true)
-        }
-        Kind::Structure => Wrote::Done(p),
-        Kind::Array => Wrote::Done(p),
-        Kind::Map => Wrote::Done(p),
-        Kind::Other => Wrote::Done(say(work, round, p, d, m, 13, m.kind as u32)),
+        Plan::Pointer => write_pointer(sheet, schema, work, round, p, d, m, v),
+        Plan::Nothing => Wrote::Done(p),
+        Plan::Remark(kind, detail) => Wrote::Done(say(work, round, p, d, m, kind, detail)),
     }
 }

@@ -1,9 +1,9 @@
--- `members::member::enum_size` meets its contract. Assumes nothing.
+-- `members::plan::enum_size` meets its contract. Assumes nothing.
 use mathlib.Core.Path.{refl}
 use native.Mathlib.Omega.{arith}
 use borrow.Author.Tests.{ne-eqb}
-use Rattle.members.proofs.member.enum_size.Statement.{statement}
-use Rattle.members.proofs.member.enum_size.Tie as tie
+use Rattle.members.proofs.plan.enum_size.Statement.{statement}
+use Rattle.members.proofs.plan.enum_size.Tie as tie
 
 pub enum-size-spec : {M : Type 1} → statement M
 enum-size-spec =

@@ -1,0 +1,62 @@
+-- What is planned for a member that leads to no structure.
+use Prim.Native.Nat.{ℕ, _^_, _<_}
+use mathlib.Core.Path.{_≡_}
+use mathlib.Core.Bool.{Bool, true}
+use Rattle.numbers.specs.Words.{Bytes}
+use Rattle.numbers.specs.Result.{ok, isSome}
+use Rattle.value.specs.Rows.{Value}
+use Rattle.schema.specs.Defs
+use Rattle.schema.specs.Defs.{Schema, StructDef, winning}
+use Rattle.schema.specs.Psch.{schemaOf}
+use Rattle.schema.specs.declared.members.Member as coded
+use Rattle.layout.specs.Kinds.{Kind}
+use Rattle.layout.specs.State.{State, Env, M, ret}
+use Rattle.layout.specs.Members.{leaves, pointerMember, textMember}
+use Rattle.area.specs.declared.Round.{Round}
+use Rattle.area.specs.Area.{envOf}
+use Rattle.members.specs.declared.Def.{Def}
+use Rattle.members.specs.declared.plan.Plan.{Plan}
+use Rattle.members.specs.declared.plan.Plan.the-variants as P
+use Rattle.members.specs.Names.{defOf, memberOf}
+use Rattle.members.specs.Cells.{cellBytes, cellSize, Sane}
+use Rattle.members.specs.Posts.{cellMember, namedMember, plainMember}
+
+-- what a plan stands for, over the sheet T and the schema file F
+abbrev pub planned : Bytes → Bytes → Env → Plan → StructDef → Defs.Member → Value → Bytes → M Bytes
+planned T F E (P.Store c size known name) d e v buf = cellMember E size (cellBytes T F c) known name d e v buf
+planned T F E P.Pointer d e v buf = pointerMember E d e v buf
+planned T F E P.Nothing d e v buf = ret buf
+planned T F E (P.Remark kind detail) d e v buf = leaves d e kind detail buf
+
+-- its numbers are in order
+abbrev pub InOrder : Plan → Type 0
+InOrder (P.Store c size known name) = Sane c × (cellSize c ≡ size) × (size < 2 ^ 40)
+InOrder P.Pointer = Unit {0}
+InOrder P.Nothing = Unit {0}
+InOrder (P.Remark kind detail) = Unit {0}
+
+-- the enum that it takes as known is there
+abbrev pub Knows : Schema → Plan → Type 0
+Knows S (P.Store c size known name) = known ≡ true → isSome (winning S .enum name) ≡ true
+Knows S P.Pointer = Unit {0}
+Knows S P.Nothing = Unit {0}
+Knows S (P.Remark kind detail) = Unit {0}
+
+-- the plan of a member that is f
+pub record Plans (F : Bytes) (d : Def) (m : coded.Member) (f : Env → StructDef → Defs.Member → Value → Bytes → M Bytes) (r : Plan) : Type 0 where
+  pub order : InOrder r
+  pub knows : (S : Schema) → schemaOf F ≡ ok S → Knows S r
+  pub is : (T : Bytes) (R : Round) (S : Schema) → schemaOf F ≡ ok S → (v : Value) (buf : Bytes) (s : State)
+      → f (envOf T S R) (defOf F d) (memberOf m) v buf s ≡ planned T F (envOf T S R) r (defOf F d) (memberOf m) v buf s
+
+-- .. of a text, whatever the schema file and the structure
+abbrev pub PlansText : coded.Member → Plan → Type 0
+PlansText m r = (F : Bytes) (d : Def) → Plans F d m textMember r
+
+-- .. of flags or an enum by the entries of the enum h
+abbrev pub PlansNamed : Bytes → coded.Member → Bool → ℕ → Plan → Type 0
+PlansNamed F m flags h r = (d : Def) → Plans F d m (λ E D e v buf. namedMember flags E h D e v buf) r
+
+-- .. by its kind
+abbrev pub PlansKind : Bytes → Def → coded.Member → Kind → Plan → Type 0
+PlansKind F d m k r = Plans F d m (λ E D e v buf. plainMember E D e k v buf) r
