@@ -137,18 +137,19 @@ fn nesting() -> Scene {
     scene("deep inline nesting", Tree::Struct(0x40, vec![(0x41, Tree::Array(vec![tree; 200]))]), Plan::of(defs))
 }
 
-/// The typical scene with a schema of 5,000 definitions, its own in the middle.
-fn definitions() -> Scene {
-    let typical = map("schema of 5,000 definitions", 40, 20);
+/// A scene with a schema of 5,000 definitions, its own in the middle.
+fn definitions(scene: Scene) -> Scene {
     let other = |k: u32| (0x2000_0000 + k, Body::Structure(0, 16, 0, (0..8).map(|i| member(0x100_0000 + i, 6, 0, 0, 0)).collect()));
     let mut defs: Vec<(u32, Body)> = (0..2_500).map(other).collect();
     defs.extend(map_schema());
     defs.extend((2_500..4_994).map(other));
-    Scene { schema: Plan::of(defs).bytes(), ..typical }
+    Scene { schema: Plan::of(defs).bytes(), ..scene }
 }
 
 pub fn scenes() -> Vec<Scene> {
-    vec![small(), map("typical scene", 40, 20), map("large scene", 1_050, 500), texts(), nesting(), definitions()]
+    let many = definitions(map("typical, 5,000 definitions", 40, 20));
+    let most = definitions(map("large, 5,000 definitions", 1_050, 500));
+    vec![small(), map("typical scene", 40, 20), map("large scene", 1_050, 500), texts(), nesting(), many, most]
 }
 
 /// A file of 10 MB: data, 4,095 blocks, 500 definitions.

@@ -5,6 +5,7 @@ use numbers::words::is_name;
 use numbers::words::left;
 use numbers::words::read_u8;
 use numbers::words::read_u32;
+use numbers::words::u32_at;
 ghost use mathlib.Core.Path.{_≡_};
 ghost use Prim.Native.Nat.{ℕ, _+_, _^_, _≤_, _<_};
 ghost use lib.ListN.{length, take, drop};
@@ -35,10 +36,10 @@ pub fn leads_to(p: &[u8], at: usize, kind: u8, name: u32) -> bool
     requires { ⌜ at + 8 ≤ length (now p) ⌝ }
     ensures { λ r. ⌜ r ≡ leadsTo (now (p .entry)) kind name at ⌝ }
 {
-    if read_u32(p, at) != name {
+    if u32_at(p, at) != name {
         return false;
     }
-    let place = read_u32(p, at + 4) as usize;
+    let place = u32_at(p, at + 4) as usize;
     (place < p.len()) & (read_u8(p, place) == kind)
 }
 

@@ -9,6 +9,6 @@ pub leads-to-spec : {M : Type 1} → statement M
 leads-to-spec =
     tie.close
     (tie.spec
-    (λ c κs. search needs) (λ c. rw (← c .before .read-u32 .ensures, ne-eqb _ _ (c .if1 .taken))) (λ c. omega arith) (λ c κs. search needs)
+    (λ c κs. search needs) (λ c. rw (← c .before .u32-at .ensures, ne-eqb _ _ (c .if1 .taken))) (λ c. omega arith) (λ c κs. search needs)
     (λ c. search needs) (λ c κs. search needs)
-    (λ c. rw (← c .before .before .before .read-u32 .ensures, eq-eqb _ _ (c .before .before .if1 .left), ← c .before .read-u322 .ensures, ← c .read-u8 .ensures)))
+    (λ c. rw (← c .before .before .before .u32-at .ensures, eq-eqb _ _ (c .before .before .if1 .left), ← c .before .u32-at2 .ensures, ← c .read-u8 .ensures)))
