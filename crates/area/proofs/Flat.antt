@@ -5,8 +5,7 @@ use Prim.Native.Nat.{ℕ, _+_, _-_, _≤_}
 use native.Mathlib.Omega.{arith}
 use lib.ListN.{length, take, length-append, length-replicate, replicate-append-replicate}
 use lib.Seq.{length-take-le, take-append-add}
-use Rattle.numbers.specs.Words.{Bytes, over, padded, zeros}
-use Rattle.numbers.proofs.Bytes.{Stands}
+use Rattle.numbers.specs.Words.{Bytes, over, padded, zeros, Stands}
 use Rattle.area.specs.Segments.{Segment, flat, rooms}
 use Rattle.area.proofs.Over.{over-left, over-mid, over-part, length-over}
 

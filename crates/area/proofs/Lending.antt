@@ -6,8 +6,8 @@ use native.Mathlib.Omega.{arith}
 use borrow.Rule.Slice.PartMut.{putMid}
 use lib.ListN.{length, take, drop, length-append, drop-of-length-le}
 use lib.Seq.{drop-drop}
-use Rattle.numbers.specs.Words.{Bytes, words, over}
-use Rattle.numbers.proofs.Bytes.{Stands, cut-at, next}
+use Rattle.numbers.specs.Words.{Bytes, words, over, Stands}
+use Rattle.numbers.proofs.Bytes.{cut-at, next}
 use Rattle.schema.specs.Defs.{Schema}
 use Rattle.layout.specs.State.{State}
 use Rattle.area.specs.declared.Round.{Round}

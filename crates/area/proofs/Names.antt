@@ -6,8 +6,8 @@ use Prim.Native.Nat.{ℕ, suc, _+_, _-_, _*_, _^_, _≤_, _<_}
 use native.Mathlib.Omega.{arith}
 use lib.Dec.{eqb}
 use lib.ListN.{length}
-use Rattle.numbers.specs.Words.{Bytes, words, bytesOf, readAt}
-use Rattle.numbers.proofs.Bytes.{Stands, Below, head-at, behind}
+use Rattle.numbers.specs.Words.{Bytes, words, bytesOf, readAt, Stands, Below}
+use Rattle.numbers.proofs.Bytes.{head-at, behind}
 use Rattle.layout.specs.State.{contains, insert}
 use Rattle.area.specs.Rows.{namesIn}
 use Rattle.area.proofs.Over.{words-one, words-append}

@@ -7,8 +7,8 @@ use native.Mathlib.Omega.{arith}
 use lib.Dec.{ltb}
 use lib.ListN.{length, length-append}
 use borrow.Author.Tests.{lt-ltb, le-ltb}
-use Rattle.numbers.specs.Words.{Bytes, words, over}
-use Rattle.numbers.proofs.Bytes.{Stands, length-words}
+use Rattle.numbers.specs.Words.{Bytes, words, over, Stands}
+use Rattle.numbers.proofs.Bytes.{length-words}
 use Rattle.schema.specs.Defs.{Schema}
 use Rattle.layout.specs.State.{Remark, State, remarked, withRemark}
 use Rattle.layout.specs.Demand3.{Every}

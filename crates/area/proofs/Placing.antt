@@ -7,8 +7,8 @@ use native.Mathlib.Omega.{arith}
 use lib.Dec.{leb, ltb}
 use lib.ListN.{length, take, drop, length-append}
 use borrow.Author.Tests.{le-leb, lt-leb, leb-true, lt-ltb, le-ltb}
-use Rattle.numbers.specs.Words.{Bytes, words, over, zeros}
-use Rattle.numbers.proofs.Bytes.{Stands, next, cut-at, length-words}
+use Rattle.numbers.specs.Words.{Bytes, words, over, zeros, Stands}
+use Rattle.numbers.proofs.Bytes.{next, cut-at, length-words}
 use Rattle.schema.specs.Defs.{Schema}
 use Rattle.layout.specs.State as L
 use Rattle.layout.specs.State.{State, done, stop, spot, pointerTo, addItem}

@@ -5,8 +5,8 @@ use mathlib.Core.List.{List, [], _∷_, _++_, append-assoc, append-nil}
 use Prim.Native.Nat.{ℕ, suc, _+_, _-_, _*_, _≤_, _<_}
 use native.Mathlib.Omega.{arith}
 use lib.ListN.{length, length-append}
-use Rattle.numbers.specs.Words.{Bytes, words, readAt}
-use Rattle.numbers.proofs.Bytes.{Stands, left, next, Below, word-at, length-words}
+use Rattle.numbers.specs.Words.{Bytes, words, readAt, Stands, Below}
+use Rattle.numbers.proofs.Bytes.{left, next, word-at, length-words}
 use Rattle.layout.specs.State.{Remark, sameRemark, remarked}
 use Rattle.layout.specs.Demand3.{Every}
 use Rattle.area.specs.Kept.{Kept, meet, meets, kept, rowBytes, rowsBytes}

@@ -6,8 +6,8 @@ use Prim.Native.Nat.{ℕ, zero, suc, _+_, _-_, _*_, _^_, _≤_, _<_}
 use native.Mathlib.Omega.{arith}
 use lib.Dec.{ltb, leb, eqb}
 use lib.ListN.{length, take, drop, length-append}
-use Rattle.numbers.specs.Words.{Bytes, words, bytesOf, over, zeros, padded}
-use Rattle.numbers.proofs.Bytes.{Stands, cut-at, next, length-words}
+use Rattle.numbers.specs.Words.{Bytes, words, bytesOf, over, zeros, padded, Stands}
+use Rattle.numbers.proofs.Bytes.{cut-at, next, length-words}
 use Rattle.schema.specs.Defs.{Schema, winning, indexEntries}
 use Rattle.layout.specs.State.{Item, Block, Core, Remark, State, withRemark, withCharge}
 use Rattle.layout.specs.Demand3.{Every}

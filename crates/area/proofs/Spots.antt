@@ -7,8 +7,8 @@ use native.Mathlib.Omega.{arith}
 use lib.Dec.{leb, eqb}
 use lib.ListN.{length, length-append}
 use borrow.Author.Tests.{eq-eqb, eqb-true, le-leb, lt-leb, leb-true}
-use Rattle.numbers.specs.Words.{Bytes, words, readAt, over}
-use Rattle.numbers.proofs.Bytes.{Stands, Below, left, next, word-at, length-words}
+use Rattle.numbers.specs.Words.{Bytes, words, readAt, over, Stands, Below}
+use Rattle.numbers.proofs.Bytes.{left, next, word-at, length-words}
 use Rattle.layout.specs.State.{Block, Spot, spot, past, maxBlock}
 use Rattle.layout.specs.Demand3.{Every}
 use Rattle.area.specs.Area.{rowsOf, Small}

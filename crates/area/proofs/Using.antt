@@ -5,14 +5,15 @@ use mathlib.Core.List.{List, [], _∷_, _++_}
 use Prim.Native.Nat.{ℕ, _+_, _-_, _*_, _^_, _≤_, _<_}
 use native.Mathlib.Omega.{arith}
 use lib.ListN.{length, length-append, length-map}
-use Rattle.numbers.specs.Words.{Bytes, words, bytesOf, over}
+use Rattle.numbers.specs.Words.{Bytes, words, bytesOf, over, Stands, Below}
 use Rattle.numbers.specs.Result.{isSome}
-use Rattle.numbers.proofs.Bytes.{Stands, Below, length-words}
+use Rattle.numbers.proofs.Bytes.{length-words}
 use Rattle.numbers.proofs.Laws.{length-bytes}
 use Rattle.schema.specs.Defs.{Schema, structName, enumName, winning, indexEntries}
 use Rattle.layout.specs.State.{Core, Uses, State, contains, insert}
 use Rattle.layout.specs.Assemble.{found, usedOf}
-use Rattle.layout.proofs.Uses.{Known, once-insert, known-insert, names-found}
+use Rattle.layout.specs.Demand3.{Known}
+use Rattle.layout.proofs.Uses.{once-insert, known-insert, names-found}
 use Rattle.layout.proofs.Named.{named-winning}
 use Rattle.layout.proofs.Carried.{carried-entries}
 use Rattle.area.specs.declared.Round.{Round}

@@ -3,12 +3,10 @@ use mathlib.Core.Path.{_≡_}
 use Prim.Native.Nat.{ℕ, _+_, _-_, _*_, _^_, _<_}
 use mathlib.Core.List.{List, [], _∷_, _++_}
 use lib.ListN.{length}
-use Rattle.numbers.specs.Words.{Bytes, words, over}
-use Rattle.numbers.proofs.Bytes.{Below}
+use Rattle.numbers.specs.Words.{Bytes, words, over, Below}
 use Rattle.schema.specs.Defs.{Schema, winning, indexEntries}
 use Rattle.layout.specs.State.{Item, Block, Core, Remark, State, Env, insert}
-use Rattle.layout.specs.Demand3.{Every}
-use Rattle.layout.proofs.Uses.{Known}
+use Rattle.layout.specs.Demand3.{Every, Known}
 use Rattle.area.specs.declared.Round.{Round}
 use Rattle.area.specs.declared.Progress.{Progress}
 use Rattle.area.specs.Segments.{Segment, flat}

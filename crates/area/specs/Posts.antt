@@ -5,8 +5,7 @@ use mathlib.Core.Bool.{Bool, true, false, cond}
 use mathlib.Core.List.{List, [], _∷_, _++_}
 use lib.Dec.{ltb}
 use lib.ListN.{length}
-use Rattle.numbers.specs.Words.{Bytes, bytesOf, over}
-use Rattle.numbers.proofs.Bytes.{Stands}
+use Rattle.numbers.specs.Words.{Bytes, bytesOf, over, Stands}
 use Rattle.schema.specs.Defs.{Schema}
 use Rattle.layout.specs.Demand3.{Every}
 use Rattle.layout.specs.State.{Block, Remark, State, withRemark, contains, spot, addItem, Out, done, stop}

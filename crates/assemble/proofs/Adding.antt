@@ -4,11 +4,9 @@ use native.Mathlib.Omega.{arith}
 use mathlib.Core.Path.{_≡_, subst}
 use mathlib.Core.List.{List, [], _∷_}
 use lib.ListN.{length}
-use Rattle.numbers.specs.Words.{Bytes, readAt}
-use Rattle.numbers.proofs.Bytes.{Stands}
+use Rattle.numbers.specs.Words.{Bytes, readAt, Stands}
 use Rattle.layout.specs.State.{Block}
-use Rattle.layout.specs.Demand3.{Every}
-use Rattle.layout.proofs.Places.{total}
+use Rattle.layout.specs.Demand3.{Every, total}
 use Rattle.area.specs.Area.{rowsOf, Small}
 use Rattle.area.proofs.Spots.{row-at}
 

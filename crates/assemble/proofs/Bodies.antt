@@ -7,8 +7,8 @@ use mathlib.Core.List.{[], _∷_, _++_, map, append-assoc, append-nil}
 use mathlib.Core.Option.{Option, none, some}
 use lib.ListN.{length, take, drop, length-append, length-drop}
 use lib.Seq.{take-add, drop-drop, length-take-le}
-use Rattle.numbers.specs.Words.{Bytes, readAt, bytesOf, words, over}
-use Rattle.numbers.proofs.Bytes.{Octets, octets-take, octets-drop, bytes-number, length-bytes}
+use Rattle.numbers.specs.Words.{Bytes, readAt, bytesOf, words, over, Octets}
+use Rattle.numbers.proofs.Bytes.{octets-take, octets-drop, bytes-number, length-bytes}
 use Rattle.schema.specs.Psch.{memberAt, membersAt, entriesAt, structHere, enumHere}
 use Rattle.numbers.specs.Result.{mapOption, orValue}
 use Rattle.schema.specs.Index.{lastPlace}

@@ -9,15 +9,14 @@ use lib.ListN.{length, take, drop, length-append, length-drop, take-append-drop}
 use lib.Seq.{length-take-le}
 use borrow.Author.Tests.{leb-true, leb-false, lt-ltb}
 use borrow.Rule.Slice.PartMut.{putMid}
-use Rattle.numbers.specs.Words.{Bytes, words, over}
+use Rattle.numbers.specs.Words.{Bytes, words, over, Stands}
 use Rattle.numbers.specs.Result.{isSome}
-use Rattle.numbers.proofs.Bytes.{Stands, length-words}
+use Rattle.numbers.proofs.Bytes.{length-words}
 use Rattle.schema.specs.Defs.{Schema, winning}
 use Rattle.layout.specs.State.{Block, Core, State}
-use Rattle.layout.specs.Demand3.{Every}
+use Rattle.layout.specs.Demand3.{Every, total, ShortNames}
 use Rattle.layout.specs.Assemble.{Records, recordsOf, usedOf, dataOf, psinOf, pmapOf, pschBytes, fileOf}
-use Rattle.layout.proofs.Blocks.{ShortNames}
-use Rattle.layout.proofs.Places.{total, data-total, psin-length}
+use Rattle.layout.proofs.Places.{data-total, psin-length}
 use Rattle.layout.proofs.ReadSchema.{pmap-length, file-length}
 use Rattle.area.specs.declared.Round.{Round}
 use Rattle.area.specs.declared.Progress.{Progress}

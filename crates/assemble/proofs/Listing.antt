@@ -9,8 +9,8 @@ use lib.Seq.{length-take-le}
 use Rattle.numbers.specs.Words.{Bytes, readAt, words, over}
 use Rattle.numbers.proofs.Bytes.{length-words}
 use Rattle.layout.specs.Demand3.{Every}
-use Rattle.layout.specs.Assemble.{joined, Records, indexOf}
-use Rattle.layout.proofs.ReadDefs.{bodies, index-length}
+use Rattle.layout.specs.Assemble.{joined, Records, indexOf, bodies}
+use Rattle.layout.proofs.ReadDefs.{index-length}
 use Rattle.area.specs.Rows.{namesIn}
 use Rattle.area.proofs.Over.{over-right, over-left, over-seq, length-over}
 use Rattle.assemble.specs.Used.{bodyOf, recordsFor, sizeOf, Stored, Counts}

@@ -13,11 +13,11 @@ use Rattle.numbers.specs.Result.{Result, ok, refused, andThen, mapResult, orEls
 use Rattle.numbers.proofs.Parts.{read-part}
 use Rattle.schema.specs.Sections.{Sections, section, end, broken, PSCH, lengthAt, overruns, sectionsFrom, sections}
 use Rattle.schema.specs.Defs.{Schema}
-use Rattle.schema.specs.Psch.{Def, defAt, defsFrom, pschOf, sectionDefs, defsOf, schemaFrom, schemaOf}
+use Rattle.schema.specs.Psch.{Def, defAt, defsFrom, pschOf, sectionDefs, defsOf, schemaFrom, schemaOf, Within}
 use Rattle.schema.specs.Index.{indexCount, kept, placesFrom, placesIn, sectionPlaces, placesOf, lastOf, lastPlace}
 use Rattle.schema.proofs.Bounds.{All, all-append}
 use Rattle.schema.proofs.Walk.{whole-part}
-use Rattle.schema.proofs.Judge.{Within, Read, def-read}
+use Rattle.schema.proofs.Judge.{Read, def-read}
 use Rattle.schema.proofs.Counts.{Indexed, indexed}
 use Rattle.assemble.specs.Used.{kindOf, Lies}
 

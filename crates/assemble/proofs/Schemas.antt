@@ -8,8 +8,8 @@ use lib.ListN.{length, length-append}
 use Rattle.numbers.specs.Words.{Bytes, bytesOf, words, over}
 use Rattle.numbers.proofs.Bytes.{length-words}
 use Rattle.schema.specs.Sections.{PSCH}
-use Rattle.layout.specs.Assemble.{Records, indexOf, pschBytes}
-use Rattle.layout.proofs.ReadDefs.{bodies, index-length, psch-length}
+use Rattle.layout.specs.Assemble.{Records, indexOf, pschBytes, bodies}
+use Rattle.layout.proofs.ReadDefs.{index-length, psch-length}
 use Rattle.area.specs.declared.Round.{Round}
 use Rattle.area.specs.declared.Progress.{Progress}
 use Rattle.area.specs.Rows.{namesIn}

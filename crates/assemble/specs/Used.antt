@@ -7,11 +7,9 @@ use mathlib.Core.Option.{some}
 use lib.ListN.{length}
 use Rattle.numbers.specs.Words.{Bytes, readAt}
 use Rattle.numbers.specs.Result.{mapOption, orValue}
-use Rattle.schema.specs.Psch.{structHere, enumHere}
+use Rattle.schema.specs.Psch.{structHere, enumHere, Within}
 use Rattle.schema.specs.Index.{lastPlace}
-use Rattle.schema.proofs.Judge.{Within}
-use Rattle.layout.specs.Assemble.{structBytes, enumBytes, Records}
-use Rattle.layout.proofs.ReadDefs.{bodies}
+use Rattle.layout.specs.Assemble.{structBytes, enumBytes, Records, bodies}
 
 -- the kind of a definition: "zero byte" for a structure, "byte 1" for an enum
 abbrev pub kindOf : Bool → ℕ

@@ -10,7 +10,7 @@ ghost use lib.ListN.{length};
 ghost use Rattle.numbers.specs.Words.{readAt, bytesOf, words, over};
 ghost use Rattle.layout.specs.State.{Block, Core};
 ghost use Rattle.layout.specs.Assemble.{dataOf, psinOf, blockRows, pmapOf};
-ghost use Rattle.layout.proofs.Places.{total};
+ghost use Rattle.layout.specs.Demand3.{total};
 ghost use Rattle.assemble.specs.Map.{Rows, SomeRows, Row, placesOf, Whole, SomeWhole};
 
 // A row of PMAP, of the block whose row stands in `work` at `row`; the next block's place.

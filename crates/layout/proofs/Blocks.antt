@@ -1,28 +1,21 @@
 -- The blocks of a layout: 4,095 at most, each with a name of 4 bytes.
 -- Assumes nothing.
-use Prim.Native.Nat.{ℕ, suc, _-_, _^_, _≤_, _<_}
+use Prim.Native.Nat.{ℕ, suc, _-_, _≤_}
 use native.Mathlib.Omega.{arith}
 use mathlib.Core.Path.{subst}
 use mathlib.Core.List.{List, [], _∷_}
 use lib.ListN.{length}
 use borrow.Author.Tests.{leb-true}
-use Rattle.numbers.specs.Words.{Bytes}
-use Rattle.numbers.proofs.Bytes.{Octets}
-use Rattle.schema.proofs.Bounds.{All, Fits, winning-fits}
+use Rattle.numbers.specs.Words.{Bytes, Octets}
+use Rattle.schema.proofs.Bounds.{Fits, winning-fits}
 use Rattle.layout.specs.State.{Block, Core, Env, spot, file, useStructC, useEnumC}
 use Rattle.layout.specs.Build.{Laid}
+use Rattle.layout.specs.Demand3.{Short, ShortNames}
 use Rattle.layout.proofs.Writers.{Prims}
 use Rattle.layout.proofs.CoreOnly.{Allows, onCore, core-prims}
 use Rattle.layout.proofs.Tiling.{spot-case}
 use Rattle.layout.proofs.Named.{Named, named-winning}
 use Rattle.layout.proofs.Made.{Made, envOf, reached}
-
--- names of 4 bytes
-abbrev pub Short : ℕ → Type 0
-Short n = n < 256 ^ 4
-
-abbrev pub ShortNames : List Block → Type 0
-ShortNames = All (λ b. Short (b .name))
 
 pub record Numbered (c : Core) : Type 0 where
   pub names : ShortNames (c .blocks)

@@ -5,9 +5,8 @@ use native.Mathlib.Omega.{arith}
 use mathlib.Core.Path.{_≡_, refl, sym, _∙_, ap, subst}
 use lib.ListN.{length, take}
 use lib.Seq.{take-append-seam}
-use Rattle.numbers.specs.Words.{Bytes}
+use Rattle.numbers.specs.Words.{Bytes, Octets}
 use Rattle.numbers.specs.Result.{Result, ok, refused}
-use Rattle.numbers.proofs.Bytes.{Octets}
 use Rattle.schema.specs.Defs.{winning}
 use Rattle.layout.specs.Assemble.{usedOf}
 use Rattle.layout.specs.Build.{Laid, Built, layout, packed, build, Answer, success, refusal, afterwards, buildPso}

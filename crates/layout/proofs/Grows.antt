@@ -11,7 +11,7 @@ use lib.Dec.{leb}
 use lib.ListN.{length}
 use Rattle.value.specs.Rows.{Fields}
 use Rattle.schema.specs.Defs.{StructDef}
-use Rattle.layout.specs.State.{State, Core, Env, Out, done, stop, M, Remark, after, bind, remarked, noted, thinned, thin, remark, pay, settle, onCore, logStart, logEnum, useStruct, useStructC, useEnum, useEnumC, addItem, addItemC, withCharge}
+use Rattle.layout.specs.State.{State, Core, Env, Out, done, stop, M, Remark, after, bind, remarked, noted, thinned, thin, remark, pay, settle, onCore, logStart, logEnum, useStruct, useStructC, useEnum, useEnumC, addItem, addItemC, withCharge, eventsOf}
 use Rattle.layout.specs.Write.{write, root}
 use Rattle.layout.proofs.Keep.{Claim, Okay, Keeps}
 use Rattle.layout.proofs.Writers.{Prims, k-write, k-root}
@@ -20,11 +20,6 @@ use Rattle.layout.proofs.Writers.{Prims, k-write, k-root}
 pub record Extends (es fs : List Remark) : Type 0 where
   pub further : List Remark
   pub split : es ++ further ≡ fs
-
--- the events at the end
-abbrev pub eventsOf : {A : Type 0} → Out A → List Remark
-eventsOf (done a s) = s .events
-eventsOf (stop n es) = es
 
 unfoldable pub Grows : {A : Type 0} → M A → Type 0
 Grows m = (s : State) → Extends (s .events) (eventsOf (m s))

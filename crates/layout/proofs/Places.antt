@@ -14,22 +14,11 @@ use Rattle.pso.specs.Reader as R
 use Rattle.layout.specs.State.{Item, Block, Core}
 use Rattle.layout.specs.Members.{nth}
 use Rattle.layout.specs.Assemble.{joined, itemsIn, blocksFrom, dataOf, psinOf}
-use Rattle.layout.specs.Demand3.{placesFrom, blockNo, BlocksTile, ItemsTile, Stands, Every}
+use Rattle.layout.specs.Demand3.{placesFrom, blockNo, BlocksTile, ItemsTile, Stands, Every, lenAt, AllIn, Tiled, before, total}
 use Rattle.layout.proofs.Items.{bytesIn, bytes-append, itemsIn-mid, tile-len, tile-start}
-use Rattle.layout.proofs.Tiling.{lenAt, AllIn, Tiled, all-mid, says-block, says-start}
+use Rattle.layout.proofs.Tiling.{all-mid, says-block, says-start}
 
 -- lengths
-
--- the lengths of the first k blocks, in all
-unfoldable pub before : ℕ → List Block → ℕ
-before zero bs = 0
-before (suc k) [] = 0
-before (suc k) (b ∷ bs) = b .len + before k bs
-
--- the lengths of all blocks
-unfoldable pub total : List Block → ℕ
-total [] = 0
-total (b ∷ bs) = b .len + total bs
 
 pub before-all : (bs : List Block) → before (length bs) bs ≡ total bs
 unfolding before total

@@ -7,9 +7,9 @@ use mathlib.Core.List.{List, _++_}
 use lib.ListN.{length, take}
 use lib.Seq.{take-append-seam}
 use borrow.Author.Tests.{le-ltb}
-use Rattle.numbers.specs.Words.{Bytes, readAt}
+use Rattle.numbers.specs.Words.{Bytes, readAt, Octets}
 use Rattle.numbers.specs.Result.{Result, ok, andThen, mapResult, needed}
-use Rattle.numbers.proofs.Bytes.{Octets, all-of, left, read-in}
+use Rattle.numbers.proofs.Bytes.{all-of, left, read-in}
 use Rattle.schema.specs.Sections.{section, end, PSIN, PMAP, PSCH, sections}
 use Rattle.schema.specs.Defs.{Lookup}
 use Rattle.schema.specs.Psch.{Def, pschOf, schemaFrom, schemaOf}
@@ -19,8 +19,8 @@ use Rattle.pso.specs.Answers.{dataFrom, dataAt}
 use Rattle.layout.specs.State.{Block, Core}
 use Rattle.layout.specs.Assemble.{dataOf, psinOf, pmapOf, usedOf, fileOf}
 use Rattle.layout.specs.Build.{Laid, packed}
-use Rattle.layout.specs.Demand3.{placesFrom, readBack}
-use Rattle.layout.proofs.Tiling.{Tiled, tiled}
+use Rattle.layout.specs.Demand3.{placesFrom, readBack, Tiled}
+use Rattle.layout.proofs.Tiling.{tiled}
 use Rattle.layout.proofs.Places.{psin-length, blocks-tiled}
 use Rattle.layout.proofs.ReadDefs.{listed, apart}
 use Rattle.layout.proofs.ReadSchema.{psin, pmap, psch, psin-headed, file-length, file-sections, reads-defs, reads-schema}

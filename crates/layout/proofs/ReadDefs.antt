@@ -7,15 +7,15 @@ use mathlib.Core.Bool.{false}
 use mathlib.Core.List.{List, [], _∷_, _++_, map}
 use lib.ListN.{length, getD, length-append, length-map}
 use borrow.Author.Tests.{le-ltb}
-use Rattle.numbers.specs.Words.{Bytes, readAt, bytesOf, words}
+use Rattle.numbers.specs.Words.{Bytes, readAt, bytesOf, words, Stands}
 use Rattle.numbers.specs.Result.{Result, ok, andThen, mapResult}
-use Rattle.numbers.proofs.Bytes.{Stands, all-of, left, next, behind, ends, head-at, read-at, word-at, length-bytes, length-words}
+use Rattle.numbers.proofs.Bytes.{all-of, left, next, behind, ends, head-at, read-at, word-at, length-bytes, length-words}
 use Rattle.schema.specs.Sections.{PSCH}
 use Rattle.schema.specs.Defs.{Member, StructDef, EnumDef, Schema}
 use Rattle.schema.specs.Psch.{Def, structure, enumeration, memberAt, membersAt, entriesAt, outside, structAt, structHere, enumAt, enumHere, defAt, defsFrom, pschOf, addDef, schemaFrom}
 use Rattle.schema.proofs.Three.{Headed}
 use Rattle.schema.proofs.Bounds.{All, MemberFits, StructFits, EntryFits, EnumFits, DefFits, SchemaFits}
-use Rattle.layout.specs.Assemble.{joined, memberBytes, structBytes, enumBytes, Records, recordsOf, indexOf, pschBytes}
+use Rattle.layout.specs.Assemble.{joined, memberBytes, structBytes, enumBytes, Records, recordsOf, indexOf, pschBytes, bodies}
 
 -- n things of k bytes that end in the section
 inside : (P : Bytes) (k n at : ℕ) → at + k * n ≤ length P → outside P k n at ≡ false
@@ -219,9 +219,6 @@ def-back P at (enumeration d) f s =
 glue : (r : Result Def) (s : Result (List Def)) (d : Def) (ds : List Def) → r ≡ ok d → s ≡ ok ds → andThen r (λ x. mapResult (x ∷_) s) ≡ ok (d ∷ ds)
 unfolding andThen mapResult
 glue r s d ds e f = rw (e, f)
-
-abbrev pub bodies : Records → Bytes
-bodies rs = joined (map (λ r. r .1) rs)
 
 defs-back : (P : Bytes) (ds : List Def) (i at : ℕ) → All DefFits ds → length P < 256 ^ 4
     → Stands P i (indexOf at (map recordOf ds)) → Stands P at (bodies (map recordOf ds)) → defsFrom P (length ds) i ≡ ok ds

@@ -7,15 +7,14 @@ use mathlib.Core.Bool.{false}
 use mathlib.Core.List.{List, [], _∷_, _++_}
 use lib.ListN.{length, getD}
 use borrow.Author.Tests.{le-ltb, lt-leb, ne-eqb}
-use Rattle.numbers.specs.Words.{Bytes, readAt, bytesOf, words}
+use Rattle.numbers.specs.Words.{Bytes, readAt, bytesOf, words, Stands}
 use Rattle.numbers.specs.Result.{ok}
-use Rattle.numbers.proofs.Bytes.{Stands, left, next, behind, head-at, word-at, length-words}
+use Rattle.numbers.proofs.Bytes.{left, next, behind, head-at, word-at, length-words}
 use Rattle.pso.specs.Reader as R
 use Rattle.layout.specs.State.{Block}
 use Rattle.layout.specs.Assemble.{blockRows, pmapOf}
-use Rattle.layout.specs.Demand3.{placesFrom, BlocksTile}
+use Rattle.layout.specs.Demand3.{placesFrom, BlocksTile, ShortNames}
 use Rattle.layout.proofs.ReadSchema.{pmap-length, pmap-word, pmap-behind}
-use Rattle.layout.proofs.Blocks.{ShortNames}
 
 -- blocks that tile end behind where they begin
 tile-le : (at end : ℕ) (bs : List Block) → BlocksTile at (placesFrom at bs) end → at ≤ end

@@ -6,9 +6,9 @@ use mathlib.Core.Path.{_≡_, refl, sym, _∙_, ap}
 use mathlib.Core.List.{List, [], _∷_, _++_, append-nil}
 use mathlib.Core.Option.{Option, none, some}
 use lib.ListN.{length, getD, length-append}
-use Rattle.numbers.specs.Words.{Bytes, readAt, bytesOf, words}
+use Rattle.numbers.specs.Words.{Bytes, readAt, bytesOf, words, Stands}
 use Rattle.numbers.specs.Result.{ok, andThen, mapResult}
-use Rattle.numbers.proofs.Bytes.{Stands, all-of, left, next, word-at, length-bytes, length-words}
+use Rattle.numbers.proofs.Bytes.{all-of, left, next, word-at, length-bytes, length-words}
 use Rattle.schema.specs.Sections.{section, end, PSIN, PMAP, PSCH, sections}
 use Rattle.schema.specs.Defs.{Lookup}
 use Rattle.schema.specs.Psch.{Def, pschOf, sectionDefs, defsOf, schemaFrom, schemaOf}

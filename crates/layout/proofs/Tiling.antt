@@ -16,27 +16,12 @@ use Rattle.layout.specs.State.{Item, Block, Core, State, emptyState, Env
 use Rattle.layout.specs.Assemble.{itemsIn}
 use Rattle.layout.specs.Write.{root}
 use Rattle.layout.specs.Build.{Laid}
-use Rattle.layout.specs.Demand3.{ItemsTile, pointerOf, pointerBlock, pointerStart}
+use Rattle.layout.specs.Demand3.{ItemsTile, pointerOf, pointerBlock, pointerStart, lenAt, AllIn, Tiled}
 use Rattle.layout.proofs.Items.{itemsIn-append, tile-snoc}
 use Rattle.layout.proofs.Keep.{Okay, Keeps}
 use Rattle.layout.proofs.Writers.{Prims, k-root}
 use Rattle.layout.proofs.CoreOnly.{Any, allows-any, onCore, core-prims}
 use Rattle.layout.proofs.Made.{Made, envOf, reached}
-
--- the length of the block that k blocks stand before; 0 where there is none
-unfoldable pub lenAt : ℕ → List Block → ℕ
-lenAt k [] = 0
-lenAt zero (b ∷ bs) = b .len
-lenAt (suc k) (b ∷ bs) = lenAt k bs
-
--- items in blocks 1 to n, with a number and a start that a pointer can say
-abbrev pub AllIn : ℕ → List Item → Type 0
-AllIn n [] = Unit {0}
-AllIn n (i ∷ is) = (1 ≤ i .block) × (i .block ≤ n) × (i .block ≤ 4095) × (i .start ≤ 0xFFFFF) × AllIn n is
-
-pub record Tiled (c : Core) : Type 0 where
-  pub tiles : (k : ℕ) → ItemsTile 0 (itemsIn (suc k) (c .items)) (lenAt k (c .blocks))
-  pub within : AllIn (length (c .blocks)) (c .items)
 
 -- where an item goes
 

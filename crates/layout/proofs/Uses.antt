@@ -11,12 +11,12 @@ use lib.ListN.{length}
 use borrow.Author.Tests.{eqb-true, eq-eqb}
 use Rattle.numbers.specs.Result.{given, isSome}
 use Rattle.numbers.specs.Words.{Bytes}
-use Rattle.schema.specs.Defs.{Lookup, structName, enumName, winning}
-use Rattle.layout.specs.State.{Core, State, Env, Spot, spot, pointerTo, done, stop, bind, after, remark, pay, withCharge, contains, insert, logStart, logEnum, useStruct, useStructC, useEnum, useEnumC, addItem, addItemC, file, settle}
+use Rattle.schema.specs.Defs.{structName, enumName, winning}
+use Rattle.layout.specs.State.{State, Env, Spot, spot, pointerTo, done, stop, bind, after, remark, pay, withCharge, contains, insert, logStart, logEnum, useStruct, useStructC, useEnum, useEnumC, addItem, addItemC, file, settle}
 use Rattle.layout.specs.State.{onCore as changes}
 use Rattle.layout.specs.Assemble.{found, consOption, usedOf}
 use Rattle.layout.specs.Build.{Laid}
-use Rattle.layout.specs.Demand3.{count, tally, Every, CarriesUsed}
+use Rattle.layout.specs.Demand3.{count, tally, Every, CarriesUsed, Once, Known}
 use Rattle.layout.proofs.Keep.{always, Okay, Keeps}
 use Rattle.layout.proofs.Writers.{Defined, Prims}
 use Rattle.layout.proofs.CoreOnly.{Any, allows-any, onCore, core-prims}
@@ -67,10 +67,6 @@ contains-insert x n l = go (contains n l) refl (eqb n x) refl
     go true ea false eb = sym (or-no (contains x l))
     go false ea b eb = contains-snoc x n l ∙ ap (λ k. contains x l || k) eb
 
--- each name in a list stands there once
-abbrev pub Once : List ℕ → Type 0
-Once l = (x : ℕ) → count x l ≡ tally (contains x l)
-
 pub once-insert : (n : ℕ) (l : List ℕ) → Once l → Once (insert n l)
 unfolding insert
 once-insert n l h x = go (contains n l) refl
@@ -84,13 +80,6 @@ once-insert n l h x = go (contains n l) refl
     go : (a : Bool) → contains n l ≡ a → count x (cond a l (l ++ (n ∷ []))) ≡ tally (contains x (cond a l (l ++ (n ∷ []))))
     go true ea = h x
     go false ea = rw (contains-snoc x n l) (new ea (eqb n x) refl)
-
--- each used name stands once, and stands for a definition
-pub record Known (L : Lookup) (c : Core) : Type 0 where
-  pub structsOnce : Once (c .structs)
-  pub enumsOnce : Once (c .enums)
-  pub structsKnown : (x : ℕ) → contains x (c .structs) ≡ true → isSome (L .struct x) ≡ true
-  pub enumsKnown : (x : ℕ) → contains x (c .enums) ≡ true → isSome (L .enum x) ≡ true
 
 pub known-insert : {A : Type 0} (f : ℕ → Option A) (n : ℕ) (l : List ℕ) → isSome (f n) ≡ true → ((x : ℕ) → contains x l ≡ true → isSome (f x) ≡ true)
     → (x : ℕ) → contains x (insert n l) ≡ true → isSome (f x) ≡ true

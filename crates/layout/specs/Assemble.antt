@@ -63,6 +63,10 @@ Records = List (ℕ × Bytes)
 unfoldable pub recordsOf : Schema → Records
 recordsOf S = map (λ d. (d .name, structBytes d)) (S .structs) ++ map (λ d. (d .name, enumBytes d)) (S .enums)
 
+-- the definitions, one after the other
+abbrev pub bodies : Records → Bytes
+bodies rs = joined (map (λ r. r .1) rs)
+
 -- "An index entry is name and place in the section.": the first definition stands at `at`
 unfoldable pub indexOf : ℕ → Records → Bytes
 indexOf at [] = []

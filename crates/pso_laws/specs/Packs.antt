@@ -5,9 +5,8 @@ use mathlib.Core.Bool.{Bool, true, false}
 use mathlib.Core.List.{List, [], _∷_, _++_}
 use mathlib.Core.Option.{some}
 use lib.ListN.{length, take, drop}
-use Rattle.numbers.specs.Words.{Bytes}
+use Rattle.numbers.specs.Words.{Bytes, Octets}
 use Rattle.numbers.specs.Result.{ok}
-use Rattle.numbers.proofs.Bytes.{Octets}
 use Rattle.value.specs.Rows.{row}
 use Rattle.schema.specs.Defs.{StructDef, EnumDef, Schema, Lookup, winning}
 use Rattle.schema.specs.Psch.{schemaOf}

@@ -9,11 +9,10 @@ use lib.ListN.{length, take, drop, replicate, drop-of-length-le}
 use Rattle.numbers.specs.Words.{Bytes, over, zeros}
 use Rattle.numbers.specs.Result.{Result, ok, refused}
 use Rattle.schema.specs.Defs.{Schema, winning}
-use Rattle.layout.specs.State.{Remark, State, thinned, thin}
+use Rattle.layout.specs.State.{Remark, State, thinned, thin, eventsOf}
 use Rattle.layout.specs.Assemble.{fileOf}
 use Rattle.layout.specs.Build as Build
 use Rattle.layout.specs.Build.{Answer, success, refusal, After, zeroRemark, packed, build, afterwards, buildPso}
-use Rattle.layout.proofs.Grows.{eventsOf}
 use Rattle.area.proofs.Flat.{length-zeros}
 use Rattle.area.specs.declared.Round.{Round}
 use Rattle.pso_write.specs.declared.Built.{Built}

@@ -12,12 +12,12 @@ use Rattle.numbers.specs.Words.{Bytes}
 use Rattle.numbers.specs.Result.{ok, refused}
 use Rattle.value.specs.Rows.{row, fieldsOf}
 use Rattle.schema.specs.Defs.{Schema, Lookup, winning}
-use Rattle.layout.specs.State.{Remark, State, Out, done, stop, thin}
+use Rattle.layout.specs.State.{Remark, State, Out, done, stop, thin, eventsOf}
 use Rattle.layout.specs.Assemble.{fileOf}
 use Rattle.layout.specs.Build as Build
 use Rattle.layout.specs.Build.{packed, build}
-use Rattle.layout.proofs.Grows.{eventsOf}
-use Rattle.layout.proofs.Tiling.{Tiled, root-tiled}
+use Rattle.layout.specs.Demand3.{Tiled}
+use Rattle.layout.proofs.Tiling.{root-tiled}
 use Rattle.area.specs.declared.Round.{Round}
 use Rattle.area.specs.declared.Progress.{Progress}
 use Rattle.area.specs.Area.{envOf, Rep}

@@ -11,9 +11,8 @@ use borrow.Author.Count.{below-none}
 use borrow.Author.Tests.{ltb-true, ltb-false}
 use Rattle.numbers.specs.Words.{Bytes, zeros}
 use Rattle.schema.specs.Defs.{Schema, winning}
-use Rattle.layout.specs.State.{Remark, sameRemark, thinned, thin}
+use Rattle.layout.specs.State.{Remark, sameRemark, thinned, thin, eventsOf}
 use Rattle.layout.specs.Build.{zeroRemark, build}
-use Rattle.layout.proofs.Grows.{eventsOf}
 use Rattle.area.specs.declared.Round.{Round}
 use Rattle.area.specs.declared.Progress.{Progress}
 use Rattle.area.specs.Rows.{rowsIn}

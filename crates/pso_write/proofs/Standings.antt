@@ -11,10 +11,9 @@ use borrow.Author.Tests.{lt-ltb, le-ltb}
 use Rattle.numbers.specs.Words.{Bytes, over}
 use Rattle.numbers.specs.Result.{ok, refused, andThen}
 use Rattle.schema.specs.Defs.{Schema, Lookup, winning}
-use Rattle.layout.specs.State.{Remark, State, Out, done, stop, sameRemark, thin}
+use Rattle.layout.specs.State.{Remark, State, Out, done, stop, sameRemark, thin, eventsOf}
 use Rattle.layout.specs.Assemble.{fileOf}
 use Rattle.layout.specs.Build.{Built, zeroRemark, within, laidFrom, packed, fitted, build}
-use Rattle.layout.proofs.Grows.{eventsOf}
 use Rattle.area.specs.declared.Round.{Round}
 use Rattle.area.specs.declared.Progress.{Progress}
 use Rattle.area.specs.Kept.{kept}

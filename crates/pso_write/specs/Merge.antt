@@ -8,10 +8,9 @@ use lib.ListN.{length, getD, take, drop, set, replicate}
 use Rattle.numbers.specs.Words.{Bytes, zeros}
 use Rattle.numbers.specs.Result.{Result, ok, refused}
 use Rattle.schema.specs.Defs.{Schema, winning}
-use Rattle.layout.specs.State.{Remark, sameRemark, thinned, thin}
+use Rattle.layout.specs.State.{Remark, sameRemark, thinned, thin, eventsOf}
 use Rattle.layout.specs.Build as Build
 use Rattle.layout.specs.Build.{build, buildPso, zeroRemark, workNeed, capOf}
-use Rattle.layout.proofs.Grows.{eventsOf}
 use Rattle.area.specs.declared.Round.{Round}
 use Rattle.area.specs.declared.Progress.{Progress}
 use Rattle.area.specs.Rows.{rowIn, rowsIn}

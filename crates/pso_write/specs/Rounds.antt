@@ -11,12 +11,11 @@ use Rattle.value.specs.Rows.{row, fieldsOf}
 use Rattle.schema.specs.Defs.{Schema, StructDef, Lookup, winning, indexEntries}
 use Rattle.schema.specs.Psch.{schemaOf}
 use Rattle.schema.specs.Index.{lastPlace}
-use Rattle.layout.specs.State.{Remark, State, Out, emptyState}
+use Rattle.layout.specs.State.{Remark, State, Out, emptyState, eventsOf}
 use Rattle.layout.specs.Write.{root}
 use Rattle.layout.specs.Assemble.{fileOf}
 use Rattle.layout.specs.Build.{Built, laidFrom, packed, fitted, build}
-use Rattle.layout.proofs.Grows.{eventsOf}
-use Rattle.layout.proofs.Tiling.{Tiled}
+use Rattle.layout.specs.Demand3.{Tiled}
 use Rattle.area.specs.declared.Round.{Round}
 use Rattle.area.specs.declared.Progress.{Progress}
 use Rattle.area.specs.Area.{itemsAt, envOf, Rep}

@@ -5,7 +5,7 @@ use Prim.Native.Nat.{_-_, _*_, _≤_}
 use native.Mathlib.Omega.{arith}
 use lib.ListN.{length}
 use borrow.Author.Needs.{needs}
-use Rattle.numbers.proofs.Bytes.{Stands}
+use Rattle.numbers.specs.Words.{Stands}
 use Rattle.layout.specs.State.{Block}
 use Rattle.layout.specs.Demand3.{Every}
 use Rattle.area.specs.Area.{rowsOf, Small}
