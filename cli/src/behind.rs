@@ -2,13 +2,11 @@
 use crate::causes::{Scene, Ways};
 use crate::definitions::{element, members, pair_name, ARRAYINFO};
 use crate::library::{Member, Remark};
+use crate::places::{shorten, SHOWN};
 use crate::sections::Listed;
 use crate::sheet::{Sheet, ARRAY, MAP, STRUCT};
 use std::collections::{BTreeSet, HashMap, HashSet};
 use std::rc::Rc;
-
-/// So many rows are named for a remark.
-const SHOWN: usize = 5;
 
 /// What is packed as a structure: the row of a Struct, or a pair by the row of its key.
 #[derive(Clone, Copy, PartialEq, Eq, Hash)]
@@ -40,7 +38,7 @@ struct Plan {
     entries: HashMap<u32, Entry>,
 }
 
-/// The rows for the remarks of one structure and member that leave out the same ones.
+/// The rows for the remarks of one structure and member, of one kind, and for kind 2 of one wanted type.
 struct Note {
     kind: u32,
     wanted: u32,
@@ -128,9 +126,7 @@ impl<'a> Behind<'a> {
         let number = *self.notes.numbers.get(&(remark.structure, remark.member))?;
         let note = self.notes.lists[number].iter().find(|n| (n.kind, n.wanted) == class(remark))?;
         let mut rows: Vec<String> = note.rows.iter().map(|r| r.to_string()).collect();
-        if rows.len() > SHOWN {
-            rows[SHOWN] = "and more".into();
-        }
+        shorten(&mut rows);
         match rows.len() {
             0 => None,
             1 => Some(format!("row {}", rows[0])),

@@ -40,17 +40,24 @@ fn high_byte(sheet: &Sheet) -> Option<String> {
     found.next()
 }
 
+/// So many of a list are shown.
+pub const SHOWN: usize = 5;
+
+/// What is behind those that are shown reads "and more".
+pub fn shorten(list: &mut [String]) {
+    if list.len() > SHOWN {
+        list[SHOWN] = "and more".into();
+    }
+}
+
 /// The texts that read as decimal numbers: one of them is meant.
 fn decimals(sheet: &Sheet) -> Option<String> {
-    const SHOWN: usize = 5;
     let texts = sheet.rows.iter().enumerate().filter(|(_, r)| r.kind == STR && reads_as_number(sheet.text(r)));
     let mut list: Vec<String> = texts
         .take(SHOWN + 1)
         .map(|(i, r)| format!("row {i} \"{}\"", String::from_utf8_lossy(sheet.text(r)).escape_default()))
         .collect();
-    if list.len() > SHOWN {
-        list[SHOWN] = "and more".into();
-    }
+    shorten(&mut list);
     (!list.is_empty()).then(|| format!("texts of this form: {}", list.join(", ")))
 }
 

@@ -12,7 +12,7 @@ use Rattle.numbers.proofs.Laws.{length-bytes}
 use Rattle.schema.specs.Defs.{Schema, structName, enumName, winning, indexEntries}
 use Rattle.layout.specs.State.{Core, Uses, State, contains, insert}
 use Rattle.layout.specs.Assemble.{found, usedOf}
-use Rattle.layout.specs.Demand3.{Known}
+use Rattle.layout.specs.Always.{Known}
 use Rattle.layout.proofs.Uses.{once-insert, known-insert, names-found}
 use Rattle.layout.proofs.Named.{named-winning}
 use Rattle.layout.proofs.Carried.{carried-entries}

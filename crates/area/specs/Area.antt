@@ -6,7 +6,8 @@ use lib.ListN.{length}
 use Rattle.numbers.specs.Words.{Bytes, words, over, Below}
 use Rattle.schema.specs.Defs.{Schema, winning, indexEntries}
 use Rattle.layout.specs.State.{Item, Block, Core, Remark, State, Env, insert}
-use Rattle.layout.specs.Demand3.{Every, Known}
+use Rattle.layout.specs.Demand3.{Every}
+use Rattle.layout.specs.Always.{Known}
 use Rattle.area.specs.declared.Round.{Round}
 use Rattle.area.specs.declared.Progress.{Progress}
 use Rattle.area.specs.Segments.{Segment, flat}

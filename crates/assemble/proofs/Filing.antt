@@ -14,7 +14,8 @@ use Rattle.numbers.specs.Result.{isSome}
 use Rattle.numbers.proofs.Bytes.{length-words}
 use Rattle.schema.specs.Defs.{Schema, winning}
 use Rattle.layout.specs.State.{Block, Core, State}
-use Rattle.layout.specs.Demand3.{Every, total, ShortNames}
+use Rattle.layout.specs.Demand3.{Every}
+use Rattle.layout.specs.Always.{total, ShortNames}
 use Rattle.layout.specs.Assemble.{Records, recordsOf, usedOf, dataOf, psinOf, pmapOf, pschBytes, fileOf}
 use Rattle.layout.proofs.Places.{data-total, psin-length}
 use Rattle.layout.proofs.ReadSchema.{pmap-length, file-length}

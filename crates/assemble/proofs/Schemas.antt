@@ -40,7 +40,7 @@ module _ (rs qs : Records) where
 
   schema-put : (n to mid end second : ℕ) (o o1 o2 o3 o4 : Bytes) → length rs + length qs ≡ n → to ≡ 12 + 8 * n → mid ≡ to + length (bodies rs) → end ≡ mid + length (bodies qs)
       → second ≡ 12 + 8 * length rs → end ≤ length o → o1 ≡ over (over o 12 (indexOf to rs)) to (bodies rs) → o2 ≡ over (over o1 second (indexOf mid qs)) mid (bodies qs)
-      → o3 ≡ over o2 0 (words (0x50534348 ∷ end ∷ [])) → o4 ≡ over o3 8 (bytesOf 4 n) → o4 ≡ over o 0 (pschBytes (rs ++ qs))
+      → o3 ≡ over o2 0 (words (PSCH ∷ end ∷ [])) → o4 ≡ over o3 8 (bytesOf 4 n) → o4 ≡ over o 0 (pschBytes (rs ++ qs))
   schema-put n to mid end second o o1 o2 o3 o4 en et em ee es h e1 e2 e3 e4 =
       let I1 : Bytes = indexOf to rs in
       let I2 : Bytes = indexOf mid qs in
@@ -81,7 +81,7 @@ module _ (F : Bytes) (R : Round) (p : Progress) (w : Bytes) where
       → (mid ≡ 12 + 8 * (p .structs + p .enums) + length (bodies (structRecords F p w)))
       × (o1 ≡ over (over o 12 (indexOf (12 + 8 * (p .structs + p .enums)) (structRecords F p w))) (12 + 8 * (p .structs + p .enums)) (bodies (structRecords F p w)))
       → (end ≡ mid + length (bodies (enumRecords F R p w))) × (o2 ≡ over (over o1 (12 + 8 * p .structs) (indexOf mid (enumRecords F R p w))) mid (bodies (enumRecords F R p w)))
-      → o3 ≡ over o2 0 (words (0x50534348 ∷ end ∷ [])) → o4 ≡ over o3 8 (bytesOf 4 (p .structs + p .enums)) → o4 ≡ over o 0 (pschBytes (usedRecords F R p w))
+      → o3 ≡ over o2 0 (words (PSCH ∷ end ∷ [])) → o4 ≡ over o3 8 (bytesOf 4 (p .structs + p .enums)) → o4 ≡ over o 0 (pschBytes (usedRecords F R p w))
   used-put mid end o o1 o2 o3 o4 h a b e3 e4 =
       schema-put (structRecords F p w) (enumRecords F R p w) (p .structs + p .enums) (12 + 8 * (p .structs + p .enums)) mid end (12 + 8 * p .structs) o o1 o2 o3 o4
       used-count refl (a .0) (b .0) (omega (arith, count-records F w false 65536 (p .structs))) (omega (arith, h, used-size, a .0, b .0)) (a .1) (b .1) e3 e4

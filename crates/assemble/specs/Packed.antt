@@ -9,7 +9,8 @@ use Rattle.numbers.specs.Result.{ok}
 use Rattle.schema.specs.Defs.{Schema, winning}
 use Rattle.schema.specs.Psch.{schemaOf}
 use Rattle.layout.specs.State.{State}
-use Rattle.layout.specs.Demand3.{Every, Tiled}
+use Rattle.layout.specs.Demand3.{Every}
+use Rattle.layout.specs.Always.{Tiled}
 use Rattle.layout.specs.Assemble.{Records, fileOf}
 use Rattle.area.specs.declared.Round.{Round}
 use Rattle.area.specs.declared.Progress.{Progress}

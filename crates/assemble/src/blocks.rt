@@ -1,6 +1,8 @@
 // The blocks' rows: the table of places, PMAP, and PSIN and PMAP together.
 use crate::data::write_data;
+use crate::head;
 use area::write_four;
+use area::write_two;
 use numbers::words::read_u32;
 use numbers::words::write_u32;
 ghost use mathlib.Core.Path.{_≡_};
@@ -10,7 +12,7 @@ ghost use lib.ListN.{length};
 ghost use Rattle.numbers.specs.Words.{readAt, bytesOf, words, over};
 ghost use Rattle.layout.specs.State.{Block, Core};
 ghost use Rattle.layout.specs.Assemble.{dataOf, psinOf, blockRows, pmapOf};
-ghost use Rattle.layout.specs.Demand3.{total};
+ghost use Rattle.layout.specs.Always.{total};
 ghost use Rattle.assemble.specs.Map.{Rows, SomeRows, Row, placesOf, Whole, SomeWhole};
 
 // A row of PMAP, of the block whose row stands in `work` at `row`; the next block's place.
@@ -73,7 +75,8 @@ fn write_map(work: &[u8], rows: usize, count: usize, root: u32, out: &mut [u8], 
     ensures { λ _. ⌜ ((bs : List Block) → Rows (now (work .entry)) rows count bs → now (out .exit) ≡ over (now (out .entry)) at (pmapOf root bs)) ⌝ }
 {
     let n = count as u32;
-    write_four(out, at, 0x504D4150, 16 + 16 * n, root, n * 65536 + 0x7070);
+    head(out, at, b"PMAP", 16 + 16 * n);
+    write_two(out, at + 8, root, n * 65536 + 0x7070);
     map_rows(work, rows, count, out, at + 16);
 }
 

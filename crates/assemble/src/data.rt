@@ -1,6 +1,7 @@
 // The data section from the laid items: each is copied from the work area to its block's place plus its start.
 use crate::copy_part;
-use area::write_four;
+use crate::head;
+use area::write_two;
 use numbers::words::read_u32;
 ghost use mathlib.Core.Path.{_≡_};
 ghost use Prim.Native.Nat.{_+_};
@@ -41,6 +42,7 @@ pub fn write_data(work: &[u8], from: usize, end: usize, table: usize, size: u32,
     ensures { λ _. ⌜ ((c : Core) → Ready (now (work .entry)) from end table (length (now (out .entry))) c → size ≡ 16 + length (dataOf c)
         → now (out .exit) ≡ over (now (out .entry)) 0 (psinOf (dataOf c))) ⌝ }
 {
-    write_four(out, 0, 0x5053494E, size, 0, 0);
+    head(out, 0, b"PSIN", size);
+    write_two(out, 8, 0, 0);
     scatter(work, from, end, table, out);
 }

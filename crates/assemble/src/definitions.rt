@@ -1,5 +1,6 @@
 // PSCH: the used definitions, copied from the schema file.
 use crate::copy_part;
+use crate::head;
 use area::Progress;
 use area::Round;
 use area::write_two;
@@ -172,6 +173,6 @@ pub fn put_schema(schema: &[u8], work: &[u8], round: Round, p: Progress, out: &m
         12 + 8 * structs,
         mid,
     );
-    write_two(out, 0, 0x50534348, end as u32);
+    head(out, 0, b"PSCH", end as u32);
     write_u32(out, 8, n as u32);
 }

@@ -10,7 +10,7 @@ use Rattle.numbers.specs.Words.{Bytes, Octets}
 use Rattle.schema.proofs.Bounds.{Fits, winning-fits}
 use Rattle.layout.specs.State.{Block, Core, Env, spot, file, useStructC, useEnumC}
 use Rattle.layout.specs.Build.{Laid}
-use Rattle.layout.specs.Demand3.{Short, ShortNames}
+use Rattle.layout.specs.Always.{Short, ShortNames}
 use Rattle.layout.proofs.Writers.{Prims}
 use Rattle.layout.proofs.CoreOnly.{Allows, onCore, core-prims}
 use Rattle.layout.proofs.Tiling.{spot-case}

@@ -14,7 +14,8 @@ use Rattle.numbers.specs.Result.{given, orElse}
 use Rattle.schema.specs.Defs.{Schema, Lookup, structName, enumName, lastNamed, winning, indexEntries}
 use Rattle.layout.specs.State.{Core, contains}
 use Rattle.layout.specs.Assemble.{found, consOption, usedOf, fileOf}
-use Rattle.layout.specs.Demand3.{count, tally, Once, Known}
+use Rattle.layout.specs.Demand3.{count, tally}
+use Rattle.layout.specs.Always.{Once, Known}
 use Rattle.layout.proofs.Named.{Named}
 use Rattle.layout.proofs.Fewer.{Agree}
 

@@ -14,7 +14,8 @@ use Rattle.pso.specs.Reader as R
 use Rattle.layout.specs.State.{Item, Block, Core}
 use Rattle.layout.specs.Members.{nth}
 use Rattle.layout.specs.Assemble.{joined, itemsIn, blocksFrom, dataOf, psinOf}
-use Rattle.layout.specs.Demand3.{placesFrom, blockNo, BlocksTile, ItemsTile, Stands, Every, lenAt, AllIn, Tiled, before, total}
+use Rattle.layout.specs.Demand3.{placesFrom, blockNo, BlocksTile, ItemsTile, Stands, Every}
+use Rattle.layout.specs.Always.{lenAt, AllIn, Tiled, before, total}
 use Rattle.layout.proofs.Items.{bytesIn, bytes-append, itemsIn-mid, tile-len, tile-start}
 use Rattle.layout.proofs.Tiling.{all-mid, says-block, says-start}
 

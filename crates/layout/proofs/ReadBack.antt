@@ -19,7 +19,8 @@ use Rattle.pso.specs.Answers.{dataFrom, dataAt}
 use Rattle.layout.specs.State.{Block, Core}
 use Rattle.layout.specs.Assemble.{dataOf, psinOf, pmapOf, usedOf, fileOf}
 use Rattle.layout.specs.Build.{Laid, packed}
-use Rattle.layout.specs.Demand3.{placesFrom, readBack, Tiled}
+use Rattle.layout.specs.Demand3.{placesFrom, readBack}
+use Rattle.layout.specs.Always.{Tiled}
 use Rattle.layout.proofs.Tiling.{tiled}
 use Rattle.layout.proofs.Places.{psin-length, blocks-tiled}
 use Rattle.layout.proofs.ReadDefs.{listed, apart}

@@ -13,7 +13,8 @@ use Rattle.numbers.proofs.Bytes.{left, next, behind, head-at, word-at, length-w
 use Rattle.pso.specs.Reader as R
 use Rattle.layout.specs.State.{Block}
 use Rattle.layout.specs.Assemble.{blockRows, pmapOf}
-use Rattle.layout.specs.Demand3.{placesFrom, BlocksTile, ShortNames}
+use Rattle.layout.specs.Demand3.{placesFrom, BlocksTile}
+use Rattle.layout.specs.Always.{ShortNames}
 use Rattle.layout.proofs.ReadSchema.{pmap-length, pmap-word, pmap-behind}
 
 -- blocks that tile end behind where they begin

@@ -20,7 +20,8 @@ use Rattle.layout.specs.Members.{nth}
 use Rattle.layout.specs.Write.{root, write}
 use Rattle.layout.specs.Build.{Laid}
 use Rattle.layout.specs.Assemble.{joined, itemsIn}
-use Rattle.layout.specs.Demand3.{placesFrom, readBack, blockNo, pointerOf, pointerBlock, RootLast, lenAt, Tiled}
+use Rattle.layout.specs.Demand3.{placesFrom, readBack, blockNo, pointerOf, pointerBlock, RootLast}
+use Rattle.layout.specs.Always.{lenAt, Tiled}
 use Rattle.layout.proofs.Items.{bytesIn, tile-rest}
 use Rattle.layout.proofs.Tiling.{spot-case, tiled, says-block, says-start}
 use Rattle.layout.proofs.Places.{place-length, own-tile}

@@ -16,7 +16,8 @@ use Rattle.layout.specs.State.{Item, Block, Core, State, emptyState, Env
 use Rattle.layout.specs.Assemble.{itemsIn}
 use Rattle.layout.specs.Write.{root}
 use Rattle.layout.specs.Build.{Laid}
-use Rattle.layout.specs.Demand3.{ItemsTile, pointerOf, pointerBlock, pointerStart, lenAt, AllIn, Tiled}
+use Rattle.layout.specs.Demand3.{ItemsTile, pointerOf, pointerBlock, pointerStart}
+use Rattle.layout.specs.Always.{lenAt, AllIn, Tiled}
 use Rattle.layout.proofs.Items.{itemsIn-append, tile-snoc}
 use Rattle.layout.proofs.Keep.{Okay, Keeps}
 use Rattle.layout.proofs.Writers.{Prims, k-root}

@@ -16,7 +16,8 @@ use Rattle.layout.specs.State.{State, Env, Spot, spot, pointerTo, done, 
 use Rattle.layout.specs.State.{onCore as changes}
 use Rattle.layout.specs.Assemble.{found, consOption, usedOf}
 use Rattle.layout.specs.Build.{Laid}
-use Rattle.layout.specs.Demand3.{count, tally, Every, CarriesUsed, Once, Known}
+use Rattle.layout.specs.Demand3.{count, tally, Every, CarriesUsed}
+use Rattle.layout.specs.Always.{Once, Known}
 use Rattle.layout.proofs.Keep.{always, Okay, Keeps}
 use Rattle.layout.proofs.Writers.{Defined, Prims}
 use Rattle.layout.proofs.CoreOnly.{Any, allows-any, onCore, core-prims}

@@ -75,7 +75,7 @@ indexOf at (r ∷ rs) = words (r .0 ∷ at ∷ []) ++ indexOf (at + length (r .1
 -- "PSCH: count, index, used structures, used enums"
 unfoldable pub pschBytes : Records → Bytes
 pschBytes rs =
-    let b = joined (map (λ r. r .1) rs) in
+    let b = bodies rs in
     words (PSCH ∷ (12 + 8 * length rs + length b) ∷ length rs ∷ []) ++ (indexOf (12 + 8 * length rs) rs ++ b)
 
 -- in front, if it is there

@@ -1,6 +1,6 @@
 -- Demand 3, as statements: what holds of every pack that is built, for all sheets, schema files and buffer lengths.
 -- There is no premise "plain" and no map is lost: docs/REBUILD.md says why.
-use Prim.Native.Nat.{ℕ, zero, suc, _+_, _/_, _%_, _^_, _≤_, _<_}
+use Prim.Native.Nat.{ℕ, zero, suc, _+_, _/_, _%_, _≤_, _<_}
 use mathlib.Core.Path.{_≡_}
 use mathlib.Core.Bool.{Bool, true, false}
 use mathlib.Core.List.{List, [], _∷_, _++_, map}
@@ -8,7 +8,7 @@ use mathlib.Core.Option.{Option, none, some}
 use lib.Dec.{eqb}
 use lib.ListN.{length, take, drop}
 use Rattle.numbers.specs.Words.{Bytes, Octets}
-use Rattle.numbers.specs.Result.{ok, isSome}
+use Rattle.numbers.specs.Result.{ok}
 use Rattle.value.specs.Rows.{row}
 use Rattle.schema.specs.Defs.{Schema, Lookup, structName, enumName, winning}
 use Rattle.schema.specs.Psch.{schemaOf}
@@ -107,54 +107,6 @@ pub record CarriesUsed (L : Lookup) (u : Uses) (K : Schema) : Type 0 where
   pub enums : (x : ℕ) → count x (map enumName (K .enums)) ≡ tally (contains x (u .enums))
   pub structDefs : Every (λ d. L .struct (d .name) ≡ some d) (K .structs)
   pub enumDefs : Every (λ d. L .enum (d .name) ≡ some d) (K .enums)
-
--- what is true of a layout's state at every time
-
--- the length of the block that k blocks stand before; 0 where there is none
-unfoldable pub lenAt : ℕ → List Block → ℕ
-lenAt k [] = 0
-lenAt zero (b ∷ bs) = b .len
-lenAt (suc k) (b ∷ bs) = lenAt k bs
-
--- the lengths of the first k blocks, in all
-unfoldable pub before : ℕ → List Block → ℕ
-before zero bs = 0
-before (suc k) [] = 0
-before (suc k) (b ∷ bs) = b .len + before k bs
-
--- the lengths of all blocks
-unfoldable pub total : List Block → ℕ
-total [] = 0
-total (b ∷ bs) = b .len + total bs
-
--- items in blocks 1 to n, with a number and a start that a pointer can say
-abbrev pub AllIn : ℕ → List Item → Type 0
-AllIn n [] = Unit {0}
-AllIn n (i ∷ is) = (1 ≤ i .block) × (i .block ≤ n) × (i .block ≤ 4095) × (i .start ≤ 0xFFFFF) × AllIn n is
-
--- the items of each block tile it, in order of laying
-pub record Tiled (c : Core) : Type 0 where
-  pub tiles : (k : ℕ) → ItemsTile 0 (itemsIn (suc k) (c .items)) (lenAt k (c .blocks))
-  pub within : AllIn (length (c .blocks)) (c .items)
-
--- names of 4 bytes
-abbrev pub Short : ℕ → Type 0
-Short n = n < 256 ^ 4
-
--- every block has such a name
-abbrev pub ShortNames : List Block → Type 0
-ShortNames = Every (λ b. Short (b .name))
-
--- each name in a list stands there once
-abbrev pub Once : List ℕ → Type 0
-Once l = (x : ℕ) → count x l ≡ tally (contains x l)
-
--- each used name stands once, and stands for a definition
-pub record Known (L : Lookup) (c : Core) : Type 0 where
-  pub structsOnce : Once (c .structs)
-  pub enumsOnce : Once (c .enums)
-  pub structsKnown : (x : ℕ) → contains x (c .structs) ≡ true → isSome (L .struct x) ≡ true
-  pub enumsKnown : (x : ℕ) → contains x (c .enums) ≡ true → isSome (L .enum x) ≡ true
 
 -- the rebuild
 

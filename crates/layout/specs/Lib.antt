@@ -7,3 +7,4 @@ pub mod Write
 pub mod Assemble
 pub mod Build
 pub mod Demand3
+pub mod Always

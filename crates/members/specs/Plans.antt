@@ -28,7 +28,7 @@ planned T F E P.Pointer d e v buf = pointerMember E d e v buf
 planned T F E P.Nothing d e v buf = ret buf
 planned T F E (P.Remark kind detail) d e v buf = leaves d e kind detail buf
 
--- its numbers are in order
+-- a cell's numbers are in order, and its size is below 2 ^ 40
 abbrev pub InOrder : Plan → Type 0
 InOrder (P.Store c size known name) = Sane c × (cellSize c ≡ size) × (size < 2 ^ 40)
 InOrder P.Pointer = Unit {0}
@@ -42,7 +42,7 @@ Knows S P.Pointer = Unit {0}
 Knows S P.Nothing = Unit {0}
 Knows S (P.Remark kind detail) = Unit {0}
 
--- the plan of a member that is f
+-- the plan r does what f, the member's definition, does
 pub record Plans (F : Bytes) (d : Def) (m : coded.Member) (f : Env → StructDef → Defs.Member → Value → Bytes → M Bytes) (r : Plan) : Type 0 where
   pub order : InOrder r
   pub knows : (S : Schema) → schemaOf F ≡ ok S → Knows S r

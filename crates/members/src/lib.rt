@@ -15,8 +15,8 @@ ghost use Rattle.numbers.specs.Result.{ok};
 ghost use Rattle.schema.specs.Defs.{Schema, winning};
 ghost use Rattle.schema.specs.Psch.{schemaOf};
 ghost use Rattle.layout.specs.Members;
-ghost use Rattle.area.specs.Posts.{Safe, Open, Notes};
-ghost use Rattle.members.specs.Names.{defOf, memberOf, lookedIs};
+ghost use Rattle.area.specs.Posts.{Safe, Notes};
+ghost use Rattle.members.specs.Names.{defOf, lookedIs};
 ghost use Rattle.members.specs.Posts.{remarkOn, paidIs};
 
 pub mod cells;

@@ -17,25 +17,24 @@ use coerce::whole::has_str;
 use coerce::whole::str_of;
 use schema::members::Member;
 use value::Found;
-use value::Row;
 use value::value_row;
 ghost use mathlib.Core.Path.{_≡_};
 ghost use mathlib.Core.Bool.{true};
-ghost use Prim.Native.Nat.{ℕ, _+_, _≤_, _<_, _^_};
+ghost use Prim.Native.Nat.{_+_, _<_, _^_};
 ghost use lib.Dec.{leb};
 ghost use lib.ListN.{length};
 ghost use Rattle.numbers.specs.Words.{Bytes};
 ghost use Rattle.numbers.specs.Result.{ok, isSome};
 ghost use Rattle.value.specs.Answer.{valueIs};
-ghost use Rattle.schema.specs.Defs.{Schema, winning};
-ghost use Rattle.schema.specs.Psch.{schemaOf, entriesAt};
+ghost use Rattle.schema.specs.Defs.{winning};
+ghost use Rattle.schema.specs.Psch.{schemaOf};
 ghost use Rattle.layout.specs.Kinds;
 ghost use Rattle.layout.specs.Members;
-ghost use Rattle.area.specs.Area.{stackAt, envOf};
+ghost use Rattle.area.specs.Area.{envOf};
 ghost use Rattle.area.specs.Posts.{Safe, Open};
 ghost use Rattle.members.specs.Names.{defOf, memberOf};
 ghost use Rattle.members.specs.Cells.{Sane, cellSize, cellBytes};
-ghost use Rattle.members.specs.Posts.{Buffer, Fills, Slots, Marked, anySchema, cellMember, namedCell, namedMember, plainMember};
+ghost use Rattle.members.specs.Posts.{Buffer, Fills, Marked, anySchema, cellMember, plainMember};
 
 // Whether n bytes at the member's offset lie in the structure.
 pub fn fits(d: Def, m: Member, n: usize) -> bool

@@ -16,7 +16,7 @@ use Rattle.layout.specs.State.{Remark, State, Out, done, stop, thin, eventsOf}
 use Rattle.layout.specs.Assemble.{fileOf}
 use Rattle.layout.specs.Build as Build
 use Rattle.layout.specs.Build.{packed, build}
-use Rattle.layout.specs.Demand3.{Tiled}
+use Rattle.layout.specs.Always.{Tiled}
 use Rattle.layout.proofs.Tiling.{root-tiled}
 use Rattle.area.specs.declared.Round.{Round}
 use Rattle.area.specs.declared.Progress.{Progress}

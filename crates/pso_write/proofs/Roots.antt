@@ -16,7 +16,8 @@ use Rattle.schema.specs.declared.lookup.Found.the-variants.{At}
 use Rattle.schema.proofs.Finds.{winning-struct}
 use Rattle.schema.specs.declared.members.Head.{Head}
 use Rattle.layout.specs.State.{State, Out, done, stop, after, bind, emptyState, contains, addItem}
-use Rattle.layout.specs.Demand3.{count, Known}
+use Rattle.layout.specs.Demand3.{count}
+use Rattle.layout.specs.Always.{Known}
 use Rattle.layout.specs.Write.{write, root}
 use Rattle.area.specs.declared.Round.{Round}
 use Rattle.area.specs.declared.Progress.{Progress}

@@ -15,7 +15,7 @@ use Rattle.layout.specs.State.{Remark, State, Out, emptyState, eventsOf}
 use Rattle.layout.specs.Write.{root}
 use Rattle.layout.specs.Assemble.{fileOf}
 use Rattle.layout.specs.Build.{Built, laidFrom, packed, fitted, build}
-use Rattle.layout.specs.Demand3.{Tiled}
+use Rattle.layout.specs.Always.{Tiled}
 use Rattle.area.specs.declared.Round.{Round}
 use Rattle.area.specs.declared.Progress.{Progress}
 use Rattle.area.specs.Area.{itemsAt, envOf, Rep}

@@ -22,7 +22,7 @@ ghost use Rattle.schema.specs.Psch.{schemaOf};
 ghost use Rattle.layout.specs.Build.{sheetOk};
 ghost use Rattle.area.specs.Posts.{Safe};
 ghost use Rattle.pso_write.specs.Rounds.{Roomy, Rooted};
-ghost use Rattle.pso_write.specs.Merge.{noJob, refusalOf, endedAt, soughtAt, jobOf, takenAt, roomedAt, Judges, Takes, Opens};
+ghost use Rattle.pso_write.specs.Merge.{noJob, refusalOf, soughtAt, jobOf, roomedAt, Judges, Takes, Opens};
 
 // What is refused before the layout; or what it runs with: the round, the root's place and name.
 pub enum Opening {

@@ -15,7 +15,6 @@ use assemble::file::put_file;
 use assemble::file::wipe;
 use layout::Remark;
 use numbers::words::clear;
-ghost use mathlib.Core.Path.{_≡_};
 ghost use lib.ListN.{length};
 ghost use Rattle.pso_write.specs.Merge.{Fit, Passes, Ready, Steps, Begins, Closing, Ends};
 

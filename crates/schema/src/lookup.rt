@@ -7,7 +7,7 @@ use numbers::words::read_u8;
 use numbers::words::read_u32;
 use numbers::words::u32_at;
 ghost use mathlib.Core.Path.{_≡_};
-ghost use Prim.Native.Nat.{ℕ, _+_, _^_, _≤_, _<_};
+ghost use Prim.Native.Nat.{_+_, _^_, _≤_, _<_};
 ghost use lib.ListN.{length, take, drop};
 ghost use Rattle.numbers.specs.Words.{readAt};
 ghost use Rattle.numbers.specs.Result.{ok, given, isSome, orValue, mapOption};

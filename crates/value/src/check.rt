@@ -250,7 +250,7 @@ fn larger(a: u8, b: u8) -> u8
     if a < b { b } else { a }
 }
 
-// Whether every byte is below 128, as the largest is then. No byte ends the loop early, so that many are compared at once.
+// Whether every byte is below 128: the largest is. No byte ends the loop early, so that many are compared at once.
 fn all_ascii(s: &[u8]) -> bool
     ensures { λ t. ⌜ t ≡ Layout.allBelow 128 (now (s .entry)) ⌝ }
 {
