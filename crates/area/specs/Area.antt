@@ -6,6 +6,7 @@ use lib.ListN.{length}
 use Rattle.numbers.specs.Words.{Bytes, words, over, Below}
 use Rattle.schema.specs.Defs.{Schema, winning, indexEntries}
 use Rattle.layout.specs.State.{Item, Block, Core, Remark, State, Env, insert}
+use Rattle.layout.specs.Build.{workNeed}
 use Rattle.layout.specs.Demand3.{Every}
 use Rattle.layout.specs.Always.{Known}
 use Rattle.area.specs.declared.Round.{Round}
@@ -26,7 +27,7 @@ encode (i ∷ is) = words (i .block ∷ i .start ∷ length (i .bytes) ∷ 0 ∷
 
 -- where the items begin, and where the stack begins
 abbrev pub itemsAt : Round → ℕ
-itemsAt R = 65536 + 8 * R .entries
+itemsAt R = workNeed (R .entries)
 
 abbrev pub stackAt : Round → ℕ
 stackAt R = itemsAt R + R .cap

@@ -10,9 +10,8 @@ use lib.ListN.{length, take, drop, replicate, drop-of-length-le}
 use lib.Seq.{drop-drop}
 use Rattle.numbers.specs.Words.{Bytes, isEmpty}
 use Rattle.value.specs.Rows
-use Rattle.coerce.specs.Text.{split, nonEmpty, parts}
+use Rattle.coerce.specs.Text.{untilParting, split, nonEmpty, parts}
 use Rattle.coerce.specs.Float.{parsesFloat}
-use Rattle.coerce.specs.Runs
 use Rattle.coerce.specs.Numbers
 use Rattle.coerce.specs.Numbers.{Fit, fits, unfit, floatText, fitThen, mapFit}
 use Rattle.coerce.specs.Answer
@@ -29,21 +28,21 @@ take-some l zero h g = absurd (omega (arith, h))
 take-some [] (suc n) h g = absurd (omega (arith, g))
 take-some (b ∷ l) (suc n) h g = refl
 
-module _ (s u : Bytes) (i k : ℕ) (pu : u ≡ drop i s) (pk : k ≡ Runs.run u) where
-  run-is : Runs.run (drop i s) ≡ k
-  run-is = rw (pk, pu)
+module _ (s u : Bytes) (i k : ℕ) (pu : u ≡ drop i s) (pk : k ≡ untilParting u) where
+  until-is : untilParting (drop i s) ≡ k
+  until-is = rw (pk, pu)
 
   -- a comma or white space is passed over
   pub first-turn : k ≤ 0 → Answer.firstParses (parts (drop (i + 1) s)) ≡ Answer.firstParses (parts (drop i s))
   first-turn h =
       let z : k ≡ 0 = omega arith in
-      let e : parts (drop i s) ≡ parts (drop (i + 1) s) = parts-step (drop i s) ∙ rw (run-is, z, drop-drop 1 i s) in
+      let e : parts (drop i s) ≡ parts (drop (i + 1) s) = parts-step (drop i s) ∙ rw (until-is, z, drop-drop 1 i s) in
       sym (ap Answer.firstParses e)
 
   pub first-here : (p : Bytes) (b : Bool) → 0 < k → k ≤ length u → p ≡ take k u → b ≡ parsesFloat p → b ≡ Answer.firstParses (parts (drop i s))
   first-here p b h g pp pb =
       let e : isEmpty (take k (drop i s)) ≡ false = ap (λ (l : Bytes). isEmpty (take k l)) (sym pu) ∙ take-some u k h g in
-      let q : parts (drop i s) ≡ take k (drop i s) ∷ parts (drop (suc k) (drop i s)) = parts-step (drop i s) ∙ rw (run-is, e) in
+      let q : parts (drop i s) ≡ take k (drop i s) ∷ parts (drop (suc k) (drop i s)) = parts-step (drop i s) ∙ rw (until-is, e) in
       pb ∙ ap parsesFloat (pp ∙ ap (take k) pu) ∙ sym (ap Answer.firstParses q)
 
 pub first-done : (s : Bytes) (i : ℕ) → length s ≤ i → false ≡ Answer.firstParses (parts (drop i s))

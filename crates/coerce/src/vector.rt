@@ -6,7 +6,7 @@ ghost use Rattle.coerce.specs.Text.{parts};
 ghost use Rattle.coerce.specs.Numbers;
 ghost use Rattle.coerce.specs.Answer;
 use crate::float::parses_float;
-use crate::text::run_of;
+use crate::text::until_parting;
 use crate::whole::Bits;
 use crate::whole::float_of;
 use numbers::words::part_from;
@@ -31,7 +31,7 @@ fn first_parses(s: &[u8]) -> bool
     let mut i = 0;
     while i < s.len() {
         let u = part_from(s, i);
-        let k = run_of(u);
+        let k = until_parting(u);
         if 0 < k {
             return parses_float(part_to(u, k));
         }

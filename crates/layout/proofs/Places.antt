@@ -9,12 +9,13 @@ use mathlib.Core.Option.{Option, none, some}
 use lib.ListN.{length, take, drop, length-append}
 use lib.Seq.{take-append-seam, drop-append-seam}
 use Rattle.numbers.specs.Words.{Bytes, words, bytesOf}
+use Rattle.numbers.specs.Result.{nth}
 use Rattle.schema.specs.Sections.{PSIN}
 use Rattle.pso.specs.Reader as R
+use Rattle.pso.specs.Blocks.{numbered}
 use Rattle.layout.specs.State.{Item, Block, Core}
-use Rattle.layout.specs.Members.{nth}
 use Rattle.layout.specs.Assemble.{joined, itemsIn, blocksFrom, dataOf, psinOf}
-use Rattle.layout.specs.Demand3.{placesFrom, blockNo, BlocksTile, ItemsTile, Stands, Every}
+use Rattle.layout.specs.Demand3.{placesFrom, BlocksTile, ItemsTile, Stands, Every}
 use Rattle.layout.specs.Always.{lenAt, AllIn, Tiled, before, total}
 use Rattle.layout.proofs.Items.{bytesIn, bytes-append, itemsIn-mid, tile-len, tile-start}
 use Rattle.layout.proofs.Tiling.{all-mid, says-block, says-start}
@@ -108,7 +109,7 @@ place-at at (suc k) (c ∷ bs) h =
     let (b, e, p) = place-at (at + c .len) k bs (omega (arith, h)) in
     (b, e, omega (arith, p))
 
-pub items-tiled : (c : Core) → Tiled c → (k : ℕ) (b : R.Block) → blockNo (placesFrom 16 (c .blocks)) k ≡ some b → ItemsTile 0 (itemsIn k (c .items)) (b .length′)
+pub items-tiled : (c : Core) → Tiled c → (k : ℕ) (b : R.Block) → numbered (placesFrom 16 (c .blocks)) k ≡ some b → ItemsTile 0 (itemsIn k (c .items)) (b .length′)
 items-tiled c t zero b e = let z : _≡_ {A = ℕ} 0 1 = cc in absurd (omega arith)
 items-tiled c t (suc k) b e = rw (place-length 16 k (c .blocks) b e) (t .tiles k)
 
@@ -192,7 +193,9 @@ module _ (c : Core) (t : Tiled c) where
         let ss = says-start i h3 in
         record {
           block = blk;
-          numbered = subst (λ n. blockNo (P .blocks) n ≡ some blk) (sym (says-block i h3 ∙ q)) (rw pb nb);
+          number = says-block i h3;
+          start = ss;
+          found = subst (λ n. numbered (P .blocks) n ≡ some blk) (sym (says-block i h3 ∙ q)) (rw pb nb);
           bytes = rw (pd, ss, sp) (part-at front (i .bytes) back (blk .place + i .start) (omega (arith, len, pl)));
         }
 

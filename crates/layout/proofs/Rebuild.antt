@@ -23,7 +23,7 @@ use Rattle.layout.specs.Runs.{Writer}
 use Rattle.layout.specs.Write.{pairsOf, mapOf, mapMember, root}
 use Rattle.layout.specs.Assemble.{usedOf, fileOf}
 use Rattle.layout.specs.Build.{Laid, Built, workNeed, capOf, packed, build, success, refusal, afterwards, buildPso}
-use Rattle.layout.specs.Demand3.{Rebuilds}
+use Rattle.layout.specs.Demand3.{Rebuilds, NoMapLost}
 use Rattle.layout.proofs.Keep.{always, Okay}
 use Rattle.layout.proofs.Named.{Named, named-winning}
 use Rattle.layout.proofs.Made.{Made, envOf, makes, too-few, builds}
@@ -33,10 +33,8 @@ use Rattle.layout.proofs.Follow.{Ends, Follows, Tells}
 use Rattle.layout.proofs.Fewer.{Rel, Inside, Fewer, second}
 use Rattle.layout.proofs.FewerWriters.{s-root, t-root}
 
--- "an empty supported map still holds 0x01000000", whatever definitions there are: no map can be lost
-pub no-map-lost : (E : Env) (w : Writer) (d : StructDef) (e : Member) (v : Value) (buf : Bytes) (s : State)
-    → eqb (e .subtype) 1 ≡ true → leb (e .offset + 24) (d .size) ≡ true → (eqb (rowOf E v .kind) Map || eqb (rowOf E v .kind) Null) ≡ true
-    → pairsOf (childrenOf (rowOf E v)) ≡ [] → mapMember E w d e v buf s ≡ done (over buf (e .offset) (words (0x01000000 ∷ []))) s
+-- no map can be lost
+pub no-map-lost : NoMapLost
 unfolding mapMember mapOf need ifM ret
 no-map-lost E w d e v buf s sub fit kind empty = rw (sub, fit, kind, empty)
 

@@ -10,17 +10,17 @@ use lib.Dec.{leb}
 use lib.ListN.{length}
 use borrow.Author.Tests.{leb-true}
 use Rattle.numbers.specs.Words.{Bytes}
-use Rattle.numbers.specs.Result.{given}
+use Rattle.numbers.specs.Result.{given, nth}
 use Rattle.value.specs.Rows.{Fields, row}
 use Rattle.schema.specs.Defs.{StructDef}
 use Rattle.pso.specs.Reader as R
+use Rattle.pso.specs.Blocks.{numbered}
 use Rattle.layout.specs.State
 use Rattle.layout.specs.State.{Item, Block, Core, State, Env, Out, done, stop, M, spot, file, pointerTo, after, bind, addItem, emptyState}
-use Rattle.layout.specs.Members.{nth}
 use Rattle.layout.specs.Write.{root, write}
 use Rattle.layout.specs.Build.{Laid}
 use Rattle.layout.specs.Assemble.{joined, itemsIn}
-use Rattle.layout.specs.Demand3.{placesFrom, readBack, blockNo, pointerOf, pointerBlock, RootLast}
+use Rattle.layout.specs.Demand3.{placesFrom, readBack, pointerOf, pointerBlock, RootLast}
 use Rattle.layout.specs.Always.{lenAt, Tiled}
 use Rattle.layout.proofs.Items.{bytesIn, tile-rest}
 use Rattle.layout.proofs.Tiling.{spot-case, tiled, says-block, says-start}
@@ -151,7 +151,7 @@ root-last T S work l m =
       last = e .last;
       pointer = sym (e .pointer);
       number = ap pointerBlock (sym (e .pointer));
-      numbered = subst (λ n. blockNo (placesFrom 16 (c .blocks)) n ≡ some b) (sym root) nb;
+      found = subst (λ n. numbered (placesFrom 16 (c .blocks)) n ≡ some b) (sym root) nb;
       named = nm ∙ e .named ∙ named-winning (m .schema) .structs (row T 0 .a) (m .def) (m .def-is);
       ends = ap (λ n. n + length (i .bytes)) (says-start i (e .most)) ∙ ends-block c (tiled T S work l m) (e .before) i k (e .last) q ∙ sym (place-length 16 k (c .blocks) b nb);
     }

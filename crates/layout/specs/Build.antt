@@ -94,6 +94,10 @@ pub record After : Type 0 where
 abbrev pub zeroRemark : Remark
 zeroRemark = record { kind = 0; structure = 0; member = 0; detail = 0 }
 
+-- xs, and zeros behind them, n in all
+unfoldable pub filled : ℕ → List Remark → List Remark
+filled n xs = xs ++ replicate (n - length xs) zeroRemark
+
 -- "the file stands at the front of the output with the rest untouched, the remarks at the front of their list with the rest zero";
 -- a refusal "leaves the output untouched and zeroes all remarks. The work area is zero after every call."
 unfoldable pub afterwards : ℕ → Bytes → ℕ → Result Built → After
@@ -103,7 +107,7 @@ afterwards work out records (ok b) =
     record {
       answer = success (length (b .file)) (length (b .remarks));
       output = b .file ++ drop (length (b .file)) out;
-      remarks = b .remarks ++ replicate (records - length (b .remarks)) zeroRemark;
+      remarks = filled records (b .remarks);
       work = zeros work;
     }
 
@@ -113,5 +117,5 @@ buildPso T F work out records = afterwards work out records (build T F work (len
 
 -- for evaluation
 unfoldable pub evaluated : ℕ → ℕ
-unfolding checked sheetOk capOf within laidFrom layoutWith layoutOf layout packed fitted build afterwards buildPso
+unfolding checked sheetOk capOf within laidFrom layoutWith layoutOf layout packed fitted build filled afterwards buildPso
 evaluated n = n

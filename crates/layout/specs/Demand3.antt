@@ -1,21 +1,24 @@
 -- Demand 3, as statements: what holds of every pack that is built, for all sheets, schema files and buffer lengths.
 -- There is no premise "plain" and no map is lost: docs/REBUILD.md says why.
-use Prim.Native.Nat.{ℕ, zero, suc, _+_, _/_, _%_, _≤_, _<_}
+use Prim.Native.Nat.{ℕ, _+_, _/_, _%_, _≤_, _<_}
 use mathlib.Core.Path.{_≡_}
-use mathlib.Core.Bool.{Bool, true, false}
+use mathlib.Core.Bool.{Bool, true, false, _||_}
 use mathlib.Core.List.{List, [], _∷_, _++_, map}
-use mathlib.Core.Option.{Option, none, some}
-use lib.Dec.{eqb}
+use mathlib.Core.Option.{some}
+use lib.Dec.{eqb, leb}
 use lib.ListN.{length, take, drop}
-use Rattle.numbers.specs.Words.{Bytes, Octets}
+use Rattle.numbers.specs.Words.{Bytes, Octets, words, over}
 use Rattle.numbers.specs.Result.{ok}
-use Rattle.value.specs.Rows.{row}
-use Rattle.schema.specs.Defs.{Schema, Lookup, structName, enumName, winning}
+use Rattle.value.specs.Rows.{Value, Map, Null, row, childrenOf}
+use Rattle.schema.specs.Defs.{Schema, Lookup, StructDef, Member, structName, enumName, winning}
 use Rattle.schema.specs.Psch.{schemaOf}
 use Rattle.pso.specs.Reader as R
+use Rattle.pso.specs.Blocks.{numbered}
 use Rattle.pso.specs.Answers.{dataAt}
-use Rattle.layout.specs.State.{Item, Block, Core, Uses, contains, pointerTo}
-use Rattle.layout.specs.Members.{nth}
+use Rattle.layout.specs.State.{Item, Block, Uses, State, Env, done, contains, pointerTo}
+use Rattle.layout.specs.Members.{rowOf}
+use Rattle.layout.specs.Runs.{Writer}
+use Rattle.layout.specs.Write.{pairsOf, mapMember}
 use Rattle.layout.specs.Assemble.{itemsIn, dataOf, psinOf, usedOf}
 use Rattle.layout.specs.Build.{Laid, layout, success, refusal, buildPso}
 
@@ -35,11 +38,6 @@ readBack l =
       blocks = placesFrom 16 (l .state .core .blocks);
       schema = usedOf (l .defs) (l .state .core);
     }
-
--- "block number (from 1)"
-abbrev pub blockNo : List R.Block → ℕ → Option R.Block
-blockNo bs zero = none
-blockNo bs (suc k) = nth bs k
 
 -- blocks and items
 
@@ -65,10 +63,12 @@ pointerBlock p = p % 4096
 abbrev pub pointerStart : ℕ → ℕ
 pointerStart p = p / 4096
 
--- "an item's bytes stand at its block's place plus its pointer's start"
+-- the pointer says the block and the start under which the item is filed, and "an item's bytes stand at its block's place plus its pointer's start"
 pub record Stands (P : R.Pso) (i : Item) : Type 0 where
   pub block : R.Block
-  pub numbered : blockNo (P .blocks) (pointerBlock (pointerOf i)) ≡ some block
+  pub number : pointerBlock (pointerOf i) ≡ i .block
+  pub start : pointerStart (pointerOf i) ≡ i .start
+  pub found : numbered (P .blocks) (pointerBlock (pointerOf i)) ≡ some block
   pub bytes : take (length (i .bytes)) (drop (block .place + pointerStart (pointerOf i)) (P .data′)) ≡ i .bytes
 
 -- Q holds of every element
@@ -85,7 +85,7 @@ pub record RootLast (T : Bytes) (l : Laid) (P : R.Pso) : Type 0 where
   pub last : l .state .core .items ≡ earlier ++ (item ∷ [])
   pub pointer : l .pointer ≡ pointerOf item
   pub number : P .root ≡ pointerBlock (pointerOf item)
-  pub numbered : blockNo (P .blocks) (P .root) ≡ some block
+  pub found : numbered (P .blocks) (P .root) ≡ some block
   pub named : block .name ≡ row T 0 .a
   pub ends : pointerStart (pointerOf item) + length (item .bytes) ≡ block .length′
 
@@ -118,6 +118,14 @@ pub record Rebuilds (T F : Bytes) (work out : ℕ) : Type 0 where
   pub same : (buffer : Bytes) (records : ℕ) → length buffer ≡ out → distinct ≤ records → take (length F) (buildPso T F work buffer records .output) ≡ F
   pub fewer : (buffer : Bytes) (records : ℕ) → length buffer ≡ out → records < distinct → buildPso T F work buffer records .answer ≡ refusal 14
 
+-- "Lost are the maps without pairs that the layout with F as schema file leaves unwritten": there are none. A supported map without pairs that fits
+-- "still holds 0x01000000", whatever definitions E has
+abbrev pub NoMapLost : Type 0
+NoMapLost =
+    (E : Env) (w : Writer) (d : StructDef) (e : Member) (v : Value) (buf : Bytes) (s : State)
+    → eqb (e .subtype) 1 ≡ true → leb (e .offset + 24) (d .size) ≡ true → (eqb (rowOf E v .kind) Map || eqb (rowOf E v .kind) Null) ≡ true
+    → pairsOf (childrenOf (rowOf E v)) ≡ [] → mapMember E w d e v buf s ≡ done (over buf (e .offset) (words (0x01000000 ∷ []))) s
+
 -- all of it
 
 -- demand 3 of a pack F that was built from the sheet T and the schema file S, with `work` bytes of work area, `out` bytes of output and `records` remark records
@@ -139,8 +147,8 @@ pub record Demand3 (T S : Bytes) (work out records : ℕ) (F : Bytes) : Type 0 w
   -- "Block 1 starts at byte 16 of PSIN, each further block where the one before ends, and the last ends with PSIN."
   pub blocksTile : BlocksTile 16 (read .blocks) (length (read .data′))
   -- "So do a block's items, in order of laying, from its first byte to its last"
-  pub itemsTile : (k : ℕ) (b : R.Block) → blockNo (read .blocks) k ≡ some b → ItemsTile 0 (itemsIn k (laid .state .core .items)) (b .length′)
-  -- "an item's bytes stand at its block's place plus its pointer's start"
+  pub itemsTile : (k : ℕ) (b : R.Block) → numbered (read .blocks) k ≡ some b → ItemsTile 0 (itemsIn k (laid .state .core .items)) (b .length′)
+  -- "an item's bytes stand at its block's place plus its pointer's start", and the pointer is that of its block and start
   pub itemsStand : Every (Stands read) (laid .state .core .items)
   -- "The root is laid last; it need not start its block."
   pub rootLast : RootLast T laid read

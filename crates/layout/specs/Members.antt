@@ -7,19 +7,13 @@ use mathlib.Core.Option.{Option, none, some}
 use lib.Dec.{leb, eqb}
 use lib.ListN.{length, take}
 use Rattle.numbers.specs.Words.{Bytes, bytesOf, over, isEmpty}
-use Rattle.numbers.specs.Result.{isSome, mapOption, orValue}
+use Rattle.numbers.specs.Result.{isSome, mapOption, orValue, nth}
 use Rattle.value.specs.Rows.{Value, Row, valueRow}
 use Rattle.coerce.specs.Numbers.{Fit, strOf}
 use Rattle.coerce.specs.Names.{Entries, hashOf, enumValue, flagsBits}
 use Rattle.schema.specs.Defs.{Lookup, StructDef, Member}
 use Rattle.layout.specs.State.{Env, M, bind, ret, ifM, optM, fitM, remark, pay, useEnum, addItem}
 use Rattle.layout.specs.Kinds.{Scalar, sizeOf, scalarBytes, typeNumber}
-
--- the i-th of a list, from 0
-unfoldable pub nth : {A : Type 0} → List A → ℕ → Option A
-nth [] i = none
-nth (a ∷ l) zero = some a
-nth (a ∷ l) (suc i) = nth l i
 
 -- the reference of the definition's i-th member, whatever its name; 0 where there is none
 unfoldable pub referenceAt : StructDef → ℕ → ℕ
@@ -41,7 +35,7 @@ high16 x = x / 65536
 unfoldable pub putPointer : Bytes → ℕ → ℕ → Bytes
 putPointer buf off p = over buf off (bytesOf 4 p)
 
--- a pointer with a count: 8 bytes after the pointer the count's low 2 bytes, twice
+-- a pointer with a count: 8 bytes after the pointer's start the count's low 2 bytes, twice
 unfoldable pub putCounted : Bytes → ℕ → ℕ → ℕ → Bytes
 putCounted buf off p n = over (putPointer buf off p) (off + 8) (bytesOf 2 n ++ bytesOf 2 n)
 
@@ -102,7 +96,7 @@ module _ (E : Env) where
       ifM (isEmpty t) (ret buf)
       (bind (addString t) λ p. ret (cond (eqb sub 3) (putCounted buf off p (length t)) (putPointer buf off p)))
 
-  -- a text in the structure itself: as many bytes as the reference's high half says, the last of them zero; what is longer is cut, without remark
+  -- a text in the structure itself, in as many bytes as the reference's high half says: all of them but the last at most are written; what is longer is cut, without remark
   unfoldable pub fixedMember : StructDef → Member → Value → Bytes → M Bytes
   fixedMember d e v buf =
       need d e (high16 (e .reference)) buf
@@ -149,5 +143,5 @@ module _ (E : Env) where
 
 -- for evaluation
 unfoldable pub evaluated : ℕ → ℕ
-unfolding nth referenceAt putPointer putCounted says leaves need wrong scalarMember addString textSlot fixedMember pointerMember hashMember textMember useEnumOf namedMember enumMember flagsMember
+unfolding referenceAt putPointer putCounted says leaves need wrong scalarMember addString textSlot fixedMember pointerMember hashMember textMember useEnumOf namedMember enumMember flagsMember
 evaluated n = n

@@ -45,6 +45,10 @@ scalarStride (Kinds.integer k) = k
 scalarStride Kinds.single = 4
 scalarStride (Kinds.vector n) = cond (eqb n 2) 8 16
 
+-- the name of the block that a run of texts by pointer goes to
+abbrev pub slotBlock : ℕ → ℕ
+slotBlock sub = cond (eqb sub 3) 200 12
+
 -- a remark that stops a run
 unfoldable pub stops : StructDef → Member → ℕ → ℕ → M (Option Run)
 stops d e kind detail = bind (says d e kind detail) λ _. ret none
@@ -116,7 +120,7 @@ module _ (E : Env) where
   unfoldable pub textRun : StructDef → Member → Member → List ℕ → M (Option Run)
   textRun d e x rs =
       ifM (eqb (x .subtype) 0) (fixedRun d e (high16 (x .reference)) rs)
-      (ifM (isPointerText (x .subtype)) (run (slotSize (x .subtype)) (cond (eqb (x .subtype) 3) 200 12) (textElement (x .subtype)) rs)
+      (ifM (isPointerText (x .subtype)) (run (slotSize (x .subtype)) (slotBlock (x .subtype)) (textElement (x .subtype)) rs)
       (ifM (isHashText (x .subtype)) (run 4 6 hashElement rs) (stops d e 11 (x .subtype))))
 
   -- "an enum in the schema .. whose run began"

@@ -7,12 +7,13 @@ use mathlib.Core.Option.{Option, some}
 use lib.Dec.{ltb, eqb}
 use lib.ListN.{length, take}
 use Rattle.numbers.specs.Words.{Bytes, words, over, isEmpty, zeros}
+use Rattle.numbers.specs.Result.{nth}
 use Rattle.value.specs.Rows.{Value, Row, Fields, fieldsOf, fieldNamed, childrenOf, textOf, Null, Str, Array, Map, Struct}
 use Rattle.coerce.specs.Text.{trimmed}
 use Rattle.schema.specs.Defs.{StructDef, Member}
 use Rattle.layout.specs.State.{Env, M, bind, ret, fail, ifM, optM, pay, useStruct, addItem}
 use Rattle.layout.specs.Kinds
-use Rattle.layout.specs.Members.{rowOf, nth, referenceAt, low16, low12, high16, putPointer, putCounted, leaves, need, wrong, scalarMember, textMember, enumMember, flagsMember}
+use Rattle.layout.specs.Members.{rowOf, referenceAt, low16, low12, high16, putPointer, putCounted, leaves, need, wrong, scalarMember, textMember, enumMember, flagsMember}
 use Rattle.layout.specs.Runs.{Writer, Run, run, pointed, elementRun}
 
 -- "name 0x100 (ARRAYINFO)"
@@ -22,6 +23,10 @@ ARRAYINFO = 0x100
 -- what an array's elements are: the member of the definition whose number the reference's low 16 bits say, or, where there are too few, its low 12 bits
 unfoldable pub arrayInfo : StructDef → Member → Option Member
 arrayInfo d e = nth (d .members) (cond (ltb (low16 (e .reference)) (length (d .members))) (low16 (e .reference)) (low12 (e .reference)))
+
+-- an array is by pointer where its subtype is 0, or 4 and its elements' subtype 3
+abbrev pub byPointer : ℕ → ℕ → Bool
+byPointer sub elements = eqb sub 0 || (eqb sub 4 && eqb elements 3)
 
 -- rows two by two: "key then value"
 unfoldable pub pairsOf : List ℕ → List (ℕ × ℕ)
@@ -51,7 +56,7 @@ module _ (E : Env) where
       optM (E .defs .struct (e .reference)) (leaves d e 4 (e .reference) buf) λ i.
       need d e (i .size) buf (bind (w i (fieldsOf (E .sheet) v)) λ bs. ret (over buf (e .offset) bs))
 
-  -- a structure by pointer; without a Struct the pointer stays zero
+  -- a structure by pointer; without a Struct nothing is written
   unfoldable pub pointedMember : Writer → StructDef → Member → Row → Bytes → M Bytes
   pointedMember w d e v buf =
       need d e 8 buf
@@ -76,16 +81,16 @@ module _ (E : Env) where
       need d e 16 buf
       (ifM (isEmpty rs) (ret buf) (laidRun (elementRun E w d e x (Kinds.kindOf (x .type)) rs) (length rs) (e .offset) buf))
 
-  -- an array inline: first the run with all that it lays, remarks and uses, then does it fit
+  -- an embedded array: first the run with all that it lays, remarks and uses, then does it fit
   unfoldable pub embeddedArray : Writer → StructDef → Member → Member → List ℕ → Bytes → M Bytes
   embeddedArray w d e x rs buf =
       bind (elementRun E w d e x (Kinds.kindOf (x .type)) rs) λ o.
       optM o (ret buf) λ r. need d e (length (r .bytes)) buf (ret (over buf (e .offset) (r .bytes)))
 
-  -- by pointer where the subtype is 0, or 4 and the elements' subtype 3; else inline, with no more items than the reference's high half says
+  -- by pointer, or else embedded, with no more items than the reference's high half says
   unfoldable pub arrayOf : Writer → StructDef → Member → Member → List ℕ → Bytes → M Bytes
   arrayOf w d e x rs buf =
-      ifM (eqb (e .subtype) 0 || (eqb (e .subtype) 4 && eqb (x .subtype) 3)) (pointedArray w d e x rs buf)
+      ifM (byPointer (e .subtype) (x .subtype)) (pointedArray w d e x rs buf)
       (embeddedArray w d e x (take (high16 (e .reference)) rs) buf)
 
   -- Array, Null or blank text: "\" \" is empty for an array"

@@ -14,14 +14,14 @@ use Rattle.numbers.specs.declared.parse.Word.{Word}
 use Rattle.value.specs.Rows.{Row}
 use Rattle.coerce.specs.Numbers.{Fit, fits, unfit, floatText, mapFit, fitOr, intOf, floatOf, vecOf}
 use Rattle.coerce.specs.Names.{hashOf, enumValue, flagsBits}
-use Rattle.coerce.specs.Answer.{intIs, bitsIs, vecIs, nothing}
+use Rattle.coerce.specs.Answer.{intIs, bitsIs, vecIs, foundBits, nothing}
 use Rattle.coerce.specs.declared.vector.Vector.{Vector}
 use Rattle.coerce.specs.declared.whole.Int.{Int}
 use Rattle.coerce.specs.declared.whole.Bits.{Bits}
 use Rattle.schema.specs.Psch.{entriesAt}
 use Rattle.layout.proofs.Fewer.{over-nil}
 use Rattle.area.proofs.Over.{words-one, words-behind}
-use Rattle.members.specs.Cells.{intFit, bitsFit, vecFit, wordBits, textFit, cellBytes, cellSize, Sane, Puts}
+use Rattle.members.specs.Cells.{intFit, bitsFit, vecFit, textFit, cellBytes, cellSize, Sane, Puts}
 use Rattle.members.specs.declared.cells.Cell.{Cell}
 use Rattle.members.specs.declared.cells.Cell.the-variants as C
 use Rattle.members.specs.declared.cells.Put.{Put}
@@ -38,7 +38,7 @@ bits-fit k (fits x) = refl
 bits-fit k unfit = refl
 bits-fit k floatText = refl
 
-pub word-fit : (k : ℕ) (o : Option ℕ) → bitsFit k (wordBits (wordIs o)) ≡ fitOr (mapOption (bytesOf k) o) unfit
+pub word-fit : (k : ℕ) (o : Option ℕ) → bitsFit k (foundBits (wordIs o)) ≡ fitOr (mapOption (bytesOf k) o) unfit
 word-fit k none = refl
 word-fit k (some n) = refl
 
@@ -115,9 +115,9 @@ module _ (T F : Bytes) (v : Row) (cell : Cell) (b : Bytes) (off : ℕ) (r : Put)
   unfolding cellBytes
   put-numbers n x e q h = put-as (vecFit n x) (C.Vector n) e (ap (mapFit (λ (xs : List ℕ). words (take n xs))) q) h
 
-  pub put-hash : (w : Word) (x : Bits) → cell ≡ C.Hash → w ≡ wordIs (hashOf T v) → x ≡ wordBits w → Puts (bitsFit 4 x) b off r c → Puts (cellBytes T F cell v) b off r c
+  pub put-hash : (w : Word) (x : Bits) → cell ≡ C.Hash → w ≡ wordIs (hashOf T v) → x ≡ foundBits w → Puts (bitsFit 4 x) b off r c → Puts (cellBytes T F cell v) b off r c
   unfolding cellBytes
-  put-hash w x e q f h = put-as (bitsFit 4 x) C.Hash e (ap (bitsFit 4) (f ∙ ap wordBits q) ∙ word-fit 4 (hashOf T v)) h
+  put-hash w x e q f h = put-as (bitsFit 4 x) C.Hash e (ap (bitsFit 4) (f ∙ ap foundBits q) ∙ word-fit 4 (hashOf T v)) h
 
   pub put-enum : (at n k : ℕ) (x : Bits) → cell ≡ C.Enum at n k → x ≡ bitsIs (enumValue T (entriesAt F n at) v) → Puts (bitsFit k x) b off r c
       → Puts (cellBytes T F cell v) b off r c

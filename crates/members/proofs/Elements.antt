@@ -25,7 +25,7 @@ use Rattle.schema.specs.declared.members.Member as coded
 use Rattle.layout.specs.State.{State, Env, M, done, after, bind, ret, ifM, fitM, remark, withRemark, useEnum, logEnum, onCore, settle, useEnumC}
 use Rattle.layout.specs.Kinds
 use Rattle.layout.specs.Members.{says, high16, slotSize, entriesOf, useEnumOf}
-use Rattle.layout.specs.Runs.{Run, stops, run, textRun, fixedRun, enumRun, fixedElement, hashElement, enumElement, textElement, scalarElement, scalarStride, scalarBlock}
+use Rattle.layout.specs.Runs.{Run, stops, run, textRun, fixedRun, enumRun, fixedElement, hashElement, enumElement, textElement, scalarElement, scalarStride, scalarBlock, slotBlock}
 use Rattle.area.specs.declared.Round.{Round}
 use Rattle.area.specs.declared.Progress.{Progress}
 use Rattle.area.specs.Area.{usedIn, envOf}
@@ -37,7 +37,7 @@ use Rattle.members.specs.declared.Ran.{Ran}
 use Rattle.members.specs.declared.Ran.the-variants as Rn
 use Rattle.members.specs.Names.{defOf, memberOf}
 use Rattle.members.specs.Cells.{cellBytes, cellElement}
-use Rattle.members.specs.Posts.{remarkOn, Grew, Yields, anySchema, slotBlock, plainRun}
+use Rattle.members.specs.Posts.{remarkOn, Grew, Yields, anySchema, plainRun}
 use Rattle.members.proofs.Choosing.{scalarCell}
 use Rattle.members.proofs.Filling.{went-noted}
 

@@ -5,7 +5,7 @@ use mathlib.Core.Path.{_≡_, refl, ap, _∙_}
 use mathlib.Core.Option.{none, some}
 use borrow.Author.Tests.{le-leb, lt-leb}
 use Rattle.numbers.specs.Words.{Bytes}
-use Rattle.numbers.specs.Result.{ok}
+use Rattle.numbers.specs.Result.{ok, nth}
 use Rattle.schema.specs.Defs
 use Rattle.schema.specs.Defs.{Schema, winning}
 use Rattle.schema.specs.Psch.{schemaOf, structHere, memberAt, membersAt}
@@ -14,7 +14,7 @@ use Rattle.schema.specs.declared.lookup.Found.{Found}
 use Rattle.schema.specs.declared.lookup.Found.the-variants as found
 use Rattle.schema.specs.declared.members.Head.{Head}
 use Rattle.schema.specs.declared.members.Member as coded
-use Rattle.layout.specs.Members.{nth, referenceAt}
+use Rattle.layout.specs.Members.{referenceAt}
 use Rattle.area.specs.declared.Round.{Round}
 use Rattle.area.specs.declared.Progress.{Progress}
 use Rattle.area.specs.Area.{withPaid}

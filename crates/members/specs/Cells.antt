@@ -5,9 +5,6 @@ use mathlib.Core.Option.{Option, none, some}
 use lib.ListN.{take}
 use Rattle.numbers.specs.Words.{Bytes, bytesOf, words, over, padded}
 use Rattle.numbers.specs.Result.{mapOption}
-use Rattle.numbers.specs.Answer.{wordIs}
-use Rattle.numbers.specs.declared.parse.Word.{Word}
-use Rattle.numbers.specs.declared.parse.Word.the-variants as W
 use Rattle.value.specs.Rows.{Row, row}
 use Rattle.coerce.specs.Numbers.{Fit, fits, unfit, floatText, mapFit, fitOr, intOf, floatOf, vecOf, strOf}
 use Rattle.coerce.specs.Names.{hashOf, enumValue, flagsBits}
@@ -40,12 +37,7 @@ bitsFit k B.FloatText = floatText
 abbrev pub vecFit : ℕ → Vector → Fit Bytes
 vecFit n x = mapFit (λ xs. words (take n xs)) (vecIs x)
 
--- a hash, or none
-abbrev pub wordBits : Word → Bits
-wordBits (W.Value n) = B.Fits n
-wordBits W.Bad = B.Unfit
-
--- a text in len bytes, the last of them zero
+-- a text in len bytes: all of them but the last at most are written
 abbrev pub textFit : Bytes → ℕ → Row → Fit Bytes
 textFit T len v = fitOr (mapOption (take (len - 1)) (strOf T v)) unfit
 

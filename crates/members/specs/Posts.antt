@@ -127,10 +127,6 @@ plainMember E d e Kinds.array v buf = ret buf
 plainMember E d e Kinds.map v buf = ret buf
 plainMember E d e Kinds.other v buf = members.leaves d e 13 (e .type) buf
 
--- the block of texts by pointer
-abbrev pub slotBlock : ℕ → ℕ
-slotBlock sub = cond (eqb sub 3) 200 12
-
 -- a run whose elements lead to no structure
 unfoldable pub plainRun : Env → StructDef → Defs.Member → Defs.Member → Kinds.Kind → List ℕ → M (Option Run)
 plainRun E d e x (Kinds.scalar s) rs = runs.run E (runs.scalarStride s) (runs.scalarBlock s (x .type)) (runs.scalarElement E s) rs

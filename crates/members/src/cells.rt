@@ -3,6 +3,7 @@ use area::write_four;
 use area::write_two;
 use coerce::flags::flags_bits;
 use coerce::names::enum_value;
+use coerce::names::found_bits;
 use coerce::names::hash_of;
 use coerce::vector::Vector;
 use coerce::vector::vec_of;
@@ -12,7 +13,6 @@ use coerce::whole::float_of;
 use coerce::whole::has_str;
 use coerce::whole::int_of;
 use coerce::whole::str_of;
-use numbers::parse::Word;
 use numbers::words::copy;
 use numbers::words::part_to;
 use numbers::words::write;
@@ -22,7 +22,7 @@ ghost use Prim.Native.Nat.{_+_, _*_, _≤_};
 ghost use lib.ListN.{length, take};
 ghost use mathlib.Core.List.{[], _∷_};
 ghost use Rattle.numbers.specs.Words.{words, over};
-ghost use Rattle.members.specs.Cells.{cellBytes, cellSize, Sane, Puts, intFit, bitsFit, vecFit, textFit, wordBits};
+ghost use Rattle.members.specs.Cells.{cellBytes, cellSize, Sane, Puts, intFit, bitsFit, vecFit, textFit};
 
 // An integer of so many bytes, an f32, a vector, a hash, an enum's value or flags by n entries at a place of the schema in so many bytes,
 // a text in so many bytes.
@@ -103,17 +103,7 @@ fn put_vector(buf: &mut [u8], off: usize, n: usize, x: Vector) -> Put
     }
 }
 
-// A hash, or none.
-fn hash_bits(w: Word) -> Bits
-    ensures { λ r. ⌜ r ≡ wordBits w ⌝ }
-{
-    match w {
-        Word::Value(n) => Bits::Fits(n),
-        Word::Bad => Bits::Unfit,
-    }
-}
-
-// A text in len bytes, the last of them zero: what is longer is cut.
+// A text in len bytes: all of them but the last at most are written; what is longer is cut.
 fn put_text(sheet: &[u8], buf: &mut [u8], off: usize, len: usize, v: Row) -> Put
     requires { ⌜ off + len ≤ length (now buf) ⌝ }
     ensures { λ r. ⌜ Puts (textFit (now (sheet .entry)) len v) (now (buf .entry)) off r (now (buf .exit)) ⌝ }
@@ -137,7 +127,7 @@ pub fn put_cell(sheet: &[u8], schema: &[u8], buf: &mut [u8], off: usize, cell: C
         Cell::Integer(k) => put_int(buf, off, k, int_of(sheet, v)),
         Cell::Single => put_bits(buf, off, 4, float_of(sheet, v)),
         Cell::Vector(n) => put_vector(buf, off, n, vec_of(sheet, v, n)),
-        Cell::Hash => put_bits(buf, off, 4, hash_bits(hash_of(sheet, v))),
+        Cell::Hash => put_bits(buf, off, 4, found_bits(hash_of(sheet, v))),
         Cell::Enum(at, n, k) => put_bits(buf, off, k, enum_value(sheet, schema, at, n, v)),
         Cell::Flags(at, n, k) => put_bits(buf, off, k, flags_bits(sheet, schema, at, n, 64, v)),
         Cell::Fixed(len) => put_text(sheet, buf, off, len, v),

@@ -37,7 +37,7 @@ ghost use Rattle.area.specs.Area.{envOf};
 ghost use Rattle.area.specs.Posts.{Safe, Open};
 ghost use Rattle.members.specs.Names.{defOf, memberOf};
 ghost use Rattle.members.specs.Cells.{Sane, cellSize, cellBytes, cellElement};
-ghost use Rattle.members.specs.Posts.{Yields, Fell, anySchema, slotBlock, plainRun};
+ghost use Rattle.members.specs.Posts.{Yields, Fell, anySchema, plainRun};
 
 // What a run of n elements costs.
 pub fn run_cost(stride: u32, n: u32) -> usize
@@ -115,7 +115,7 @@ fn pointer_text_run(
 ) -> Ran
     requires { ⌜ Safe round (length (now work)) p ⌝ }
     ensures { λ r. ⌜ Yields anySchema round (length (now (work .entry))) p (now (work .entry)) 0
-        (λ S. Runs.run (envOf (now (sheet .entry)) S round) (Members.slotSize sub) (slotBlock sub) (Runs.textElement (envOf (now (sheet .entry)) S round) sub) (rowsFrom first n)) r (now (work .exit)) ⌝ }
+        (λ S. Runs.run (envOf (now (sheet .entry)) S round) (Members.slotSize sub) (Runs.slotBlock sub) (Runs.textElement (envOf (now (sheet .entry)) S round) sub) (rowsFrom first n)) r (now (work .exit)) ⌝ }
 {
     let stride = slot_size(sub);
     match pay(round, p, run_cost(stride as u32, n)) {
@@ -144,7 +144,7 @@ fn pointer_text_run(
 
 // The name of the block of texts by pointer.
 fn slot_block(sub: u8) -> u32
-    ensures { λ r. ⌜ r ≡ slotBlock sub ⌝ }
+    ensures { λ r. ⌜ r ≡ Runs.slotBlock sub ⌝ }
 {
     if sub == 3 { 200 } else { 12 }
 }

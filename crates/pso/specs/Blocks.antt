@@ -5,20 +5,14 @@ use mathlib.Core.List.{List, [], _∷_, _++_}
 use mathlib.Core.Option.{Option, none, some}
 use lib.Dec.{eqb}
 use Rattle.numbers.specs.Words.{Bytes}
-use Rattle.numbers.specs.Result.{Result, ok, refused}
+use Rattle.numbers.specs.Result.{Result, ok, refused, nth}
 use Rattle.schema.specs.Sections.{Sections, section, end, broken, PMAP}
 use Rattle.pso.specs.Reader.{Block, pmapOf}
-
--- block n, from 0
-unfoldable pub nthOf : List Block → ℕ → Option Block
-nthOf [] n = none
-nthOf (b ∷ bs) zero = some b
-nthOf (b ∷ bs) (suc n) = nthOf bs n
 
 -- "block number (from 1)"
 abbrev pub numbered : List Block → ℕ → Option Block
 numbered bs zero = none
-numbered bs (suc n) = nthOf bs n
+numbered bs (suc n) = nth bs n
 
 -- the rows, or none where they are refused (16)
 abbrev pub orNone : Result (List Block) → List Block

@@ -9,10 +9,10 @@ ghost use mathlib.Core.Option.{some};
 ghost use Prim.Native.Nat.{_+_, _≤_};
 ghost use lib.ListN.{length, take, drop};
 ghost use Rattle.numbers.specs.Words.{readAt};
-ghost use Rattle.numbers.specs.Result.{ok};
+ghost use Rattle.numbers.specs.Result.{ok, nth};
 ghost use Rattle.schema.specs.Sections.{sections};
 ghost use Rattle.pso.specs.Reader.{Pso, isLater, pmapOf, blockAt, parsePso};
-ghost use Rattle.pso.specs.Blocks.{nthOf, numbered, sectionBlocks, blocksOf};
+ghost use Rattle.pso.specs.Blocks.{numbered, sectionBlocks, blocksOf};
 ghost use Rattle.pso.specs.Answers.{rowsIs, rowIs};
 ghost use Rattle.pso.specs.Steps.{InTable, Spans};
 
@@ -117,7 +117,7 @@ fn span_of(file: &[u8], place: usize, len: usize) -> Span
 
 // The row n, from 0, over all PMAP sections.
 fn nth_row(file: &[u8], n: usize) -> Row
-    ensures { λ r. ⌜ rowIs r ≡ nthOf (blocksOf (sections (now (file .entry)))) n ⌝ }
+    ensures { λ r. ⌜ rowIs r ≡ nth (blocksOf (sections (now (file .entry)))) n ⌝ }
 {
     let mut c = Cursor::new();
     let mut k = n;

@@ -9,12 +9,11 @@ use lib.Dec.{eqb}
 use lib.ListN.{length, take, drop}
 use borrow.Author.Tests.{eqb-true}
 use Rattle.numbers.specs.Words.{Bytes}
+use Rattle.numbers.specs.Result.{nth}
 use Rattle.schema.specs.Defs.{firstNamed}
 use Rattle.pso.specs.Reader as R
-use Rattle.pso.specs.Blocks.{nthOf, numbered}
 use Rattle.layout.specs.State.{Block}
-use Rattle.layout.specs.Members.{nth}
-use Rattle.layout.specs.Demand3.{placesFrom, blockNo, Every, tally, count}
+use Rattle.layout.specs.Demand3.{placesFrom, Every, tally, count}
 
 -- a part of a front is a part of the whole
 pub part : (n p : ℕ) (A B : Bytes) → length (take n (drop p A)) ≡ n → take n (drop p (A ++ B)) ≡ take n (drop p A)
@@ -25,18 +24,8 @@ part (suc n) (suc p) [] B h = absurd (omega (arith, h))
 part (suc n) (suc p) (a ∷ A) B h = part (suc n) p A B h
 
 -- by number
-pub nth-same : (l : List R.Block) (k : ℕ) → nthOf l k ≡ nth l k
-unfolding nthOf nth
-nth-same [] k = refl
-nth-same (b ∷ l) zero = refl
-nth-same (b ∷ l) (suc k) = nth-same l k
-
-pub number-same : (l : List R.Block) (k : ℕ) → numbered l k ≡ blockNo l k
-number-same l zero = refl
-number-same l (suc k) = nth-same l k
-
-pub nth-past : (l : List R.Block) (k : ℕ) → length l < suc k → nthOf l k ≡ none
-unfolding nthOf
+pub nth-past : (l : List R.Block) (k : ℕ) → length l < suc k → nth l k ≡ none
+unfolding nth
 nth-past [] k h = refl
 nth-past (b ∷ l) zero h = absurd (omega (arith, h))
 nth-past (b ∷ l) (suc k) h = nth-past l k (omega (arith, h))

@@ -6,10 +6,10 @@ use mathlib.Core.List.{List, [], _∷_, _++_}
 use mathlib.Core.Option.{Option, none, some}
 use lib.ListN.{length, take, drop, take-append-drop}
 use Rattle.numbers.specs.Words.{Bytes}
-use Rattle.numbers.specs.Result.{Result, ok, refused}
+use Rattle.numbers.specs.Result.{Result, ok, refused, nth}
 use Rattle.schema.specs.Defs.{winning}
 use Rattle.pso.specs.Reader as R
-use Rattle.pso.specs.Blocks.{nthOf, numbered}
+use Rattle.pso.specs.Blocks.{numbered}
 use Rattle.pso.proofs.Given.{parsed}
 use Rattle.layout.specs.State.{Item, Block}
 use Rattle.layout.specs.Assemble.{itemsIn}
@@ -21,7 +21,7 @@ use Rattle.sandvurek.specs.Exports.{outcomeIs, outcomeOf, readingIs, readingOf,
 use Rattle.sandvurek.specs.declared.Block as E
 use Rattle.sandvurek.specs.declared.Reading.{Reading}
 use Rattle.pso_laws.specs.Packs.{fileIn, BlocksFollow, StandsIn, RootEnds, GivesAgain, Pack, EveryBuiltPack}
-use Rattle.pso_laws.proofs.Lists.{part, number-same, nth-past, places-length, every-map}
+use Rattle.pso_laws.proofs.Lists.{part, nth-past, places-length, every-map}
 use Rattle.pso_laws.proofs.Looked.{struct-by, enum-by}
 
 -- a file that the reader accepts
@@ -33,17 +33,17 @@ module _ (F : Bytes) (p : R.Pso) (e : R.parsePso F ≡ ok p) where
   block : (k : ℕ) → blockOf F k ≡ blockIs (numbered (p .blocks) k)
   block k = ap (λ (l : List R.Block). blockIs (numbered l k)) (sym (parsed F p e .blocks))
 
-  block-is : (k : ℕ) (b : R.Block) → D.blockNo (p .blocks) k ≡ some b → blockOf F k ≡ blockIs (some b)
-  block-is k b q = block k ∙ ap blockIs (number-same (p .blocks) k ∙ q)
+  block-is : (k : ℕ) (b : R.Block) → numbered (p .blocks) k ≡ some b → blockOf F k ≡ blockIs (some b)
+  block-is k b q = block k ∙ ap blockIs q
 
   -- what is found under a number is a block of the file
-  found-is : (k : ℕ) (Q : E.Block → Type 0) → ((b : R.Block) → D.blockNo (p .blocks) k ≡ some b → Q (blockIs (some b))) → blockOf F k .found ≡ 1 → Q (blockOf F k)
-  found-is k Q f h = subst Q (sym g) (go (D.blockNo (p .blocks) k) refl (ap (λ (b : E.Block). b .found) (sym g) ∙ h))
+  found-is : (k : ℕ) (Q : E.Block → Type 0) → ((b : R.Block) → numbered (p .blocks) k ≡ some b → Q (blockIs (some b))) → blockOf F k .found ≡ 1 → Q (blockOf F k)
+  found-is k Q f h = subst Q (sym g) (go (numbered (p .blocks) k) refl (ap (λ (b : E.Block). b .found) (sym g) ∙ h))
     where
-      g : blockOf F k ≡ blockIs (D.blockNo (p .blocks) k)
-      g = block k ∙ ap blockIs (number-same (p .blocks) k)
+      g : blockOf F k ≡ blockIs (numbered (p .blocks) k)
+      g = block k
 
-      go : (o : Option R.Block) → D.blockNo (p .blocks) k ≡ o → blockIs o .found ≡ 1 → Q (blockIs o)
+      go : (o : Option R.Block) → numbered (p .blocks) k ≡ o → blockIs o .found ≡ 1 → Q (blockIs o)
       go (some b) q h = f b q
       go none q h = absurd (omega (arith, h))
 
@@ -54,21 +54,23 @@ module _ (F : Bytes) (p : R.Pso) (e : R.parsePso F ≡ ok p) where
   stands : take (length (p .data′)) F ≡ p .data′ → (i : Item) → D.Stands p i → StandsIn F i
   stands front i s =
       let k = D.pointerBlock (D.pointerOf i) in
-      let b = block-is k (s .block) (s .numbered) in
+      let b = block-is k (s .block) (s .found) in
       let at = s .block .place + D.pointerStart (D.pointerOf i) in
       let n = length (i .bytes) in
       let whole : p .data′ ++ drop (length (p .data′)) F ≡ F = ap (_++ drop (length (p .data′)) F) (sym front) ∙ take-append-drop (length (p .data′)) F in
       let there : take n (drop at F) ≡ i .bytes
       = ap (λ (l : Bytes). take n (drop at l)) (sym whole) ∙ part n at (p .data′) (drop (length (p .data′)) F) (ap length (s .bytes)) ∙ s .bytes in
       record {
+        number = s .number;
+        start = s .start;
         found = ap (λ (c : E.Block). c .found) b;
         bytes = subst (λ (c : E.Block). take n (drop (c .place + D.pointerStart (D.pointerOf i)) F) ≡ i .bytes) (sym b) there;
       }
 
 -- the blocks from number k on
-follow : (F : Bytes) (k at end : ℕ) (bs : List Block) → ((j : ℕ) → blockOf F (suc (k + j)) ≡ blockIs (nthOf (D.placesFrom at bs) j)) → D.BlocksTile at (D.placesFrom at bs) end
+follow : (F : Bytes) (k at end : ℕ) (bs : List Block) → ((j : ℕ) → blockOf F (suc (k + j)) ≡ blockIs (nth (D.placesFrom at bs) j)) → D.BlocksTile at (D.placesFrom at bs) end
     → BlocksFollow F (suc k) at bs end
-unfolding nthOf D.placesFrom
+unfolding nth D.placesFrom
 follow F k at end [] h t = t
 follow F k at end (b ∷ bs) h t =
     let z : k + 0 ≡ k = omega arith in (
@@ -86,7 +88,7 @@ module _ (T S : Bytes) (work out records : ℕ) (F : Bytes) (d : D.Demand3 T S w
       let x = d .rootLast in
       let e = reading F (d .read) (d .accepts) in
       let n : readingOf F .root ≡ d .read .root = ap (λ (q : Reading). q .root) e in
-      let b : blockOf F (readingOf F .root) ≡ blockIs (some (x .block)) = ap (blockOf F) n ∙ block-is F (d .read) (d .accepts) (d .read .root) (x .block) (x .numbered) in
+      let b : blockOf F (readingOf F .root) ≡ blockIs (some (x .block)) = ap (blockOf F) n ∙ block-is F (d .read) (d .accepts) (d .read .root) (x .block) (x .found) in
       record {
         earlier = x .earlier;
         root = x .item;
@@ -122,6 +124,8 @@ module _ (T S : Bytes) (work out records : ℕ) (F : Bytes) (d : D.Demand3 T S w
         schema = d .schema;
         schemaGives = d .schemaGives;
         accepts = ap (λ (q : Reading). q .code) e;
+        read = d .read;
+        reads = a;
         root = ap (λ (q : Reading). q .root) e ∙ ap (λ (p : R.Pso). p .root) (d .readsLaid);
         dataAtFront = ap (λ (q : Reading). q .data_at) e ∙ d .dataAtFront;
         blocks = many ∙ ap length places ∙ places-length 16 bs;
@@ -131,24 +135,17 @@ module _ (T S : Bytes) (work out records : ℕ) (F : Bytes) (d : D.Demand3 T S w
             follow F 0 16 (readingOf F .data_length) bs
             (λ j.
             let z : 0 + j ≡ j = omega arith in
-            ap (λ (x : ℕ). blockOf F (suc x)) z ∙ block F (d .read) a (suc j) ∙ ap (λ (l : List R.Block). blockIs (nthOf l j)) places)
+            ap (λ (x : ℕ). blockOf F (suc x)) z ∙ block F (d .read) a (suc j) ∙ ap (λ (l : List R.Block). blockIs (nth l j)) places)
             (subst (λ (n : ℕ). D.BlocksTile 16 (D.placesFrom 16 bs) n) (sym (ap (λ (q : Reading). q .data_length) e))
             (subst (λ (l : List R.Block). D.BlocksTile 16 l (length (d .read .data′))) places (d .blocksTile)));
         itemsFollow = λ k. found-is F (d .read) a k (λ (b : E.Block). D.ItemsTile 0 (itemsIn k (d .laid .state .core .items)) (b .length)) (λ b q. d .itemsTile k b q);
         itemsStand = every-map (D.Stands (d .read)) (StandsIn F) (stands F (d .read) a (d .dataFirst)) (d .laid .state .core .items) (d .itemsStand);
         rootEnds = root-ends;
-        once = λ p q. subst (λ (x : R.Pso). D.CarriesUsed (winning (d .schema)) (d .laid .state .uses) (x .schema)) (same-read p q) (d .carriesUsed);
+        once = d .carriesUsed;
         structs = λ name. struct-by F (d .read) a name (winning (d .schema)) (d .laid .state .uses) (d .carriesUsed);
         enums = λ name. enum-by F (d .read) a name (winning (d .schema)) (d .laid .state .uses) (d .carriesUsed);
         givesAgain = gives-again;
       }
-    where
-      same-read : (p : R.Pso) → R.parsePso F ≡ ok p → d .read ≡ p
-      same-read p q = ap (λ (x : Result R.Pso). fromOk x) (sym (d .accepts) ∙ q)
-        where
-          fromOk : Result R.Pso → R.Pso
-          fromOk (ok x) = x
-          fromOk (refused n) = p
 
 -- code 0 is success: 0 is no refusal's number
 succeeds : (work : ℕ) (out : Bytes) (records : ℕ) (r : Result Built) → Among 1 14 r → outcomeIs (afterwards work out records r .answer) .code ≡ 0

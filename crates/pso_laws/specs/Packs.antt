@@ -27,8 +27,10 @@ BlocksFollow F k at [] end = at ≡ end
 BlocksFollow F k at (b ∷ bs) end =
     (blockOf F k ≡ record { found = 1; name = b .name; place = at; length = b .len }) × BlocksFollow F (suc k) (at + b .len) bs end
 
--- the item's bytes stand in F at the place of the block that its pointer names, plus the start that its pointer says
+-- the pointer says the block and the start under which the item is filed, and the item's bytes stand in F at that block's place plus that start
 pub record StandsIn (F : Bytes) (i : Item) : Type 0 where
+  pub number : pointerBlock (pointerOf i) ≡ i .block
+  pub start : pointerStart (pointerOf i) ≡ i .start
   pub found : blockOf F (pointerBlock (pointerOf i)) .found ≡ 1
   pub bytes : take (length (i .bytes)) (drop (blockOf F (pointerBlock (pointerOf i)) .place + pointerStart (pointerOf i)) F) ≡ i .bytes
 
@@ -72,6 +74,8 @@ pub record Pack (T S : Bytes) (work out records : ℕ) (F : Bytes) : Type 0 wher
   pub schemaGives : schemaOf S ≡ ok schema
   -- the reader accepts F
   pub accepts : readingOf F .code ≡ 0
+  pub read : Pso
+  pub reads : parsePso F ≡ ok read
   -- "PMAP: root block number": the block number of the root's pointer
   pub root : readingOf F .root ≡ pointerBlock (laid .pointer)
   -- "PSIN, PMAP and PSCH, .. in that order": the data section is the front of F, so places in it are places in F
@@ -89,7 +93,7 @@ pub record Pack (T S : Bytes) (work out records : ℕ) (F : Bytes) : Type 0 wher
   -- "The root is laid last; it need not start its block."
   pub rootEnds : RootEnds T F laid
   -- "PSCH has each used definition once"
-  pub once : (p : Pso) → parsePso F ≡ ok p → CarriesUsed (winning schema) (laid .state .uses) (p .schema)
+  pub once : CarriesUsed (winning schema) (laid .state .uses) (read .schema)
   -- "with the members or entries of S's winning one; a structure and an enum of one name are two": by name, a structure if one was started
   pub structs : (name : ℕ) → StructBy (winning schema) F name (contains name (laid .state .uses .started))
   -- .. and an enum if one was used

@@ -12,7 +12,7 @@ use Rattle.schema.specs.Defs.{Schema, winning}
 use Rattle.layout.specs.State.{Remark, State, thinned, thin, eventsOf}
 use Rattle.layout.specs.Assemble.{fileOf}
 use Rattle.layout.specs.Build as Build
-use Rattle.layout.specs.Build.{Answer, success, refusal, After, zeroRemark, packed, build, afterwards, buildPso}
+use Rattle.layout.specs.Build.{Answer, success, refusal, After, zeroRemark, packed, build, afterwards, buildPso, filled}
 use Rattle.area.proofs.Flat.{length-zeros}
 use Rattle.area.specs.declared.Round.{Round}
 use Rattle.pso_write.specs.declared.Built.{Built}
@@ -23,7 +23,7 @@ use Rattle.pso_write.specs.declared.rounds.Opening.the-variants as O
 use Rattle.pso_write.specs.Answers.{answerOf, leaves}
 use Rattle.assemble.specs.Packed.{Fitting, SomeFitting, InUse}
 use Rattle.pso_write.specs.Rounds.{Roomy, Rooted, runOf, Laid}
-use Rattle.pso_write.specs.Merge.{noJob, refusalOf, remarksIn, filled, Closing, Inv, Takes, Opens, Begins, Ends}
+use Rattle.pso_write.specs.Merge.{noJob, refusalOf, remarksIn, Closing, Inv, Takes, Opens, Begins, Ends}
 use Rattle.pso_write.proofs.Merges.{closes}
 
 -- the whole area cleared

@@ -4,7 +4,7 @@ use Prim.Native.Nat.{ℕ, _+_, _*_, _-_, _<_, _≤_}
 use mathlib.Core.Bool.{true, false, cond}
 use mathlib.Core.List.{List, [], _++_}
 use lib.Dec.{ltb, eqb}
-use lib.ListN.{length, getD, take, drop, set, replicate}
+use lib.ListN.{length, getD, take, drop, set}
 use Rattle.numbers.specs.Words.{Bytes, zeros}
 use Rattle.numbers.specs.Result.{Result, ok, refused}
 use Rattle.schema.specs.Defs.{Schema, winning}
@@ -84,10 +84,6 @@ takenAt j count = record { at = 0; last = false; length = 0; base = count; count
 abbrev pub remarksIn : Result Build.Built → List Remark
 remarksIn (ok b) = b .remarks
 remarksIn (refused n) = []
-
--- xs, and zeros behind them, n in all
-unfoldable pub filled : ℕ → List Remark → List Remark
-filled n xs = xs ++ replicate (n - length xs) zeroRemark
 
 -- a row of the round
 abbrev pub rowOf : Bytes → ℕ → Remark

@@ -5,7 +5,7 @@ use mathlib.Core.Path.{_≡_, refl, sym, ap, _∙_, subst}
 use mathlib.Core.Option.{Option, none, some}
 use lib.ListN.{length}
 use Rattle.numbers.specs.Words.{Bytes, readAt}
-use Rattle.numbers.specs.Result.{ok, mapOption}
+use Rattle.numbers.specs.Result.{ok, mapOption, nth}
 use Rattle.schema.specs.Defs.{Member, leading}
 use Rattle.schema.specs.Psch.{memberAt, membersAt, entriesAt, structHere, enumHere}
 use Rattle.schema.specs.Index.{firstPlace}
@@ -16,7 +16,6 @@ use Rattle.schema.proofs.Finds.{leading-struct, leading-enum}
 use Rattle.pso.specs.Reader.{Pso, parsePso}
 use Rattle.pso.specs.Answers.{structureAt, enumerationAt}
 use Rattle.pso.proofs.Given.{parsed}
-use Rattle.layout.specs.Members.{nth}
 use Rattle.sandvurek.specs.Exports.{definitionIs, structureOf, enumOf, memberIs, IsStruct, IsEnum, StructIs, EnumIs}
 use Rattle.sandvurek.specs.declared.Definition.{Definition}
 

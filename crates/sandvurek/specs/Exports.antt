@@ -5,7 +5,7 @@ use mathlib.Core.List.{List}
 use mathlib.Core.Option.{Option, none, some}
 use lib.ListN.{length}
 use Rattle.numbers.specs.Words.{Bytes}
-use Rattle.numbers.specs.Result.{Result, ok, refused}
+use Rattle.numbers.specs.Result.{Result, ok, refused, nth}
 use Rattle.schema.specs.Sections.{sections}
 use Rattle.schema.specs.Defs as D
 use Rattle.schema.specs.Psch.{memberAt}
@@ -18,7 +18,6 @@ use Rattle.pso.specs.Answers.{dataAt, structureAt, enumerationAt}
 use Rattle.pso.specs.declared.definitions.Definition as P
 use Rattle.pso.specs.declared.definitions.Definition.the-variants.{Found, Nothing}
 use Rattle.layout.specs.State.{Remark}
-use Rattle.layout.specs.Members.{nth}
 use Rattle.layout.specs.Build.{Answer, success, refusal, After}
 use Rattle.sandvurek.specs.declared.Outcome.{Outcome}
 use Rattle.sandvurek.specs.declared.Reading.{Reading}

@@ -11,12 +11,12 @@ use Rattle.numbers.specs.Words.{Bytes, readAt}
 use Rattle.numbers.specs.Result.{Result, ok, refused, andThen, mapResult}
 use Rattle.schema.specs.Sections.{Sections, section, end, broken, sections, PSCH}
 use Rattle.schema.specs.Defs.{indexEntries}
-use Rattle.schema.specs.Psch.{Def, structure, enumeration, outside, defAt, defsFrom, pschOf, sectionDefs, defsOf, schemaFrom, schemaOf}
-use Rattle.schema.specs.Steps.{rest, past, defHere, judged}
+use Rattle.schema.specs.Psch.{Def, structure, enumeration, past, outside, defAt, defsFrom, pschOf, sectionDefs, defsOf, schemaFrom, schemaOf}
+use Rattle.schema.specs.Steps.{rest, defHere, judged}
 use Rattle.schema.specs.Answers.{checkedIs}
 use Rattle.schema.specs.declared.check.Checked.{Checked}
 use Rattle.schema.specs.declared.check.Checked.the-variants as C
-use Rattle.schema.proofs.Judge.{past-outside, inside}
+use Rattle.schema.proofs.Judge.{inside}
 use Rattle.schema.proofs.Walk.{rest-all}
 
 -- i definitions and those that are left
@@ -42,11 +42,11 @@ module _ (P : Bytes) where
   module _ (n : ℕ) (h : 12 ≤ length P) (e : n ≡ readAt 4 P 8) where
     pub psch-past : past P n (12 + 8 * n) ≡ true → C.Refused 5 ≡ checkedIs whole
     unfolding pschOf mapResult
-    psch-past q = rw (le-ltb (length P) 12 h, ← e, past-outside P 8 n 12, q, pschOf)
+    psch-past q = rw (le-ltb (length P) 12 h, ← e, q, pschOf)
 
     psch-goes : past P n (12 + 8 * n) ≡ false → pschOf P ≡ defsFrom P n 12
     unfolding pschOf
-    psch-goes q = rw (le-ltb (length P) 12 h, ← e, past-outside P 8 n 12, q, pschOf)
+    psch-goes q = rw (le-ltb (length P) 12 h, ← e, q, pschOf)
 
     pub begin : past P n (12 + 8 * n) ≡ false → mapResult (more 0) (defsFrom P (n - 0) (12 + 8 * 0)) ≡ whole
     begin q =

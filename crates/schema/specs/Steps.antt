@@ -1,7 +1,7 @@
 -- What the contracts of single steps say: of the cursor, and of one definition.
-use Prim.Native.Nat.{ℕ, zero, suc, _+_, _-_, _≤_}
+use Prim.Native.Nat.{ℕ, _+_, _-_, _≤_}
 use mathlib.Core.Path.{_≡_}
-use mathlib.Core.Bool.{Bool, false, cond}
+use mathlib.Core.Bool.{cond}
 use lib.Dec.{ltb, eqb}
 use lib.ListN.{length, take, drop}
 use Rattle.numbers.specs.Words.{Bytes, readAt}
@@ -33,11 +33,6 @@ abbrev pub Reach : Bytes → ℕ → Step → Type 0
 Reach F at (Section place len next) = Stepped F at place len (next .at)
 Reach F at End = Unit {0}
 Reach F at Broken = Unit {0}
-
--- n things end at `stop` and not in the section; no things are everywhere in it
-abbrev pub past : Bytes → ℕ → ℕ → Bool
-past P zero stop = false
-past P (suc n) stop = ltb (length P) stop
 
 -- the definition of kind k (0 a structure, 1 an enum) at a place
 abbrev pub defHere : Bytes → ℕ → ℕ → ℕ → Def

@@ -12,8 +12,8 @@ ghost use lib.ListN.{length, take, drop};
 ghost use Rattle.numbers.specs.Words.{readAt};
 ghost use Rattle.numbers.specs.Result.{mapResult};
 ghost use Rattle.schema.specs.Defs.{indexEntries};
-ghost use Rattle.schema.specs.Psch.{defAt, pschOf, sectionDefs, schemaOf};
-ghost use Rattle.schema.specs.Steps.{past, judged};
+ghost use Rattle.schema.specs.Psch.{past, defAt, pschOf, sectionDefs, schemaOf};
+ghost use Rattle.schema.specs.Steps.{judged};
 ghost use Rattle.schema.specs.Answers.{checkedIs};
 
 // n things that end at `stop` do not lie in p.

@@ -7,7 +7,7 @@ use native.Mathlib.Omega.{arith}
 use borrow.Author.Tests.{lt-ltb, le-ltb, ne-eqb}
 use lib.Dec.{ltb, eqb}
 use Rattle.numbers.specs.Words.{Bytes, isEmpty}
-use Rattle.numbers.specs.Result.{ok, isSome}
+use Rattle.numbers.specs.Result.{ok, isSome, nth}
 use Rattle.value.specs.Rows.{Row, textOf}
 use Rattle.coerce.specs.Text.{trimmed}
 use Rattle.schema.specs.Defs
@@ -15,7 +15,6 @@ use Rattle.schema.specs.Defs.{Schema, winning}
 use Rattle.schema.specs.Psch.{schemaOf, memberAt}
 use Rattle.schema.specs.Answers.{memberIs}
 use Rattle.schema.specs.declared.members.Member as coded
-use Rattle.layout.specs.Members.{nth}
 use Rattle.layout.specs.Runs.{ownType}
 use Rattle.layout.specs.State.{Env}
 use Rattle.layout.specs.Write.{arrayInfo, isStructValue, isArrayValue}

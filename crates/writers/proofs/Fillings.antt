@@ -19,7 +19,7 @@ use Rattle.layout.specs.Kinds
 use Rattle.layout.specs.State.{State, M, ret, bind, ifM, addItem}
 use Rattle.layout.specs.Members.{need, leaves, wrong, putCounted, high16}
 use Rattle.layout.specs.Runs.{Run, elementRun}
-use Rattle.layout.specs.Write.{pointedArray, embeddedArray, arrayOf, arrayMember, arrayInfo, isArrayValue, laidRun}
+use Rattle.layout.specs.Write.{byPointer, pointedArray, embeddedArray, arrayOf, arrayMember, arrayInfo, isArrayValue, laidRun}
 use Rattle.area.specs.declared.Round.{Round}
 use Rattle.area.specs.declared.Progress.{Progress}
 use Rattle.area.specs.Area.{itemsAt, stackAt, envOf}
@@ -35,7 +35,7 @@ use Rattle.members.proofs.Loops.{length-rowsFrom}
 use Rattle.members.proofs.Filling.{stays, said}
 use Rattle.writers.specs.declared.choose.Info.{Info}
 use Rattle.writers.specs.declared.choose.Info.the-variants as I
-use Rattle.writers.specs.Sources.{infoIs, itemCount, byPointer, least}
+use Rattle.writers.specs.Sources.{infoIs, itemCount, least}
 use Rattle.writers.specs.Posts.{Of, deeper, Lodges, Embeds}
 use Rattle.writers.proofs.Meeting.{if-true, if-false, opt-none, opt-some}
 use Rattle.writers.proofs.Embedding.{fit-within, need-fits, need-leaves}

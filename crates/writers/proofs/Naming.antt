@@ -8,11 +8,11 @@ use native.Mathlib.Omega.{arith}
 use borrow.Author.Tests.{eq-eqb, ne-eqb, eqb-true, eqb-false, ltb-true, ltb-false}
 use lib.Dec.{eqb, ltb}
 use lib.ListN.{length, drop}
+use Rattle.numbers.specs.Result.{nth}
 use Rattle.value.specs.Rows.{Fields, fieldNamed}
 use Rattle.value.specs.Answer.{foundIs}
 use Rattle.value.specs.declared.Found.the-variants.{At, Missing}
 use Rattle.schema.specs.Defs.{Member, StructDef}
-use Rattle.layout.specs.Members.{nth}
 use Rattle.layout.specs.Write.{ARRAYINFO, named, pairFields}
 use Rattle.writers.specs.Sources.{NextNamed}
 use Rattle.writers.proofs.Nths.{nth-none}

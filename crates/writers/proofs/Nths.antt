@@ -6,11 +6,11 @@ use Prim.Native.Nat.{ℕ, zero, suc, _+_, _*_, _≤_, _<_}
 use native.Mathlib.Omega.{arith}
 use lib.ListN.{length}
 use Rattle.numbers.specs.Words.{Bytes}
+use Rattle.numbers.specs.Result.{nth}
 use Rattle.schema.specs.Psch.{memberAt}
 use Rattle.schema.specs.Answers.{memberIs}
 use Rattle.schema.specs.declared.members.Member as coded
 use Rattle.schema.proofs.Places.{members-length}
-use Rattle.layout.specs.Members.{nth}
 use Rattle.members.specs.declared.Def.{Def}
 use Rattle.members.specs.Names.{defOf, memberOf}
 use Rattle.members.proofs.Looking.{members-nth}

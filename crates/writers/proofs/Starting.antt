@@ -9,11 +9,11 @@ use borrow.Author.Tests.{ne-eqb}
 use lib.Dec.{leb, eqb}
 use lib.ListN.{length, drop, drop-of-length-le}
 use Rattle.numbers.specs.Words.{Bytes, zeros}
+use Rattle.numbers.specs.Result.{nth}
 use Rattle.value.specs.Rows.{Value, Fields, fieldNamed}
 use Rattle.schema.specs.Defs.{Schema, StructDef, Member}
 use Rattle.layout.specs.State.{State, Env, Out, done, stop, after, bind, ret, fail, ifM, pay, withCharge, logStart, settle, onCore, useStructC, useStruct}
 use Rattle.layout.specs.Kinds.{kindOf}
-use Rattle.layout.specs.Members.{nth}
 use Rattle.layout.specs.Runs.{Writer}
 use Rattle.layout.specs.Write.{ARRAYINFO, member, members, started, body, write}
 use Rattle.area.specs.declared.Round.{Round}

@@ -9,7 +9,7 @@ use borrow.Author.Tests.{leb-true, eq-eqb, ne-eqb}
 use lib.Dec.{leb}
 use lib.ListN.{length-replicate}
 use Rattle.numbers.specs.Words.{Bytes, zeros}
-use Rattle.numbers.specs.Result.{isSome}
+use Rattle.numbers.specs.Result.{isSome, nth}
 use Rattle.value.specs.Rows.{Value, Fields, fieldNamed}
 use Rattle.value.specs.Answer.{foundIs, valueIs}
 use Rattle.value.specs.declared.Found.{Found}
@@ -18,7 +18,6 @@ use Rattle.schema.specs.Defs.{Schema, winning}
 use Rattle.schema.specs.declared.members.Member as coded
 use Rattle.layout.specs.State.{State, withCharge}
 use Rattle.layout.specs.Kinds.{kindOf}
-use Rattle.layout.specs.Members.{nth}
 use Rattle.layout.specs.Write.{ARRAYINFO, member, members}
 use Rattle.area.specs.declared.Round.{Round}
 use Rattle.area.specs.declared.Progress.{Progress}

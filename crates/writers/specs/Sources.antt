@@ -1,17 +1,16 @@
 -- Where a structure's values come from, and what is chosen before it is written.
 use Prim.Native.Nat.{ℕ, _+_, _*_, _≤_, _<_}
 use mathlib.Core.Path.{_≡_}
-use mathlib.Core.Bool.{Bool, cond, _&&_, _||_}
+use mathlib.Core.Bool.{cond}
 use mathlib.Core.List.{List, [], _∷_}
 use mathlib.Core.Option.{Option, none, some}
 use lib.Dec.{ltb, eqb}
 use Rattle.numbers.specs.Words.{Bytes}
-use Rattle.numbers.specs.Result.{Result, ok, isSome, mapOption}
+use Rattle.numbers.specs.Result.{Result, ok, isSome, mapOption, nth}
 use Rattle.value.specs.Rows.{Row, row, Fields, fieldsOf, Array, Map}
 use Rattle.schema.specs.Defs
 use Rattle.schema.specs.Defs.{Schema, StructDef, winning}
 use Rattle.schema.specs.Psch.{schemaOf}
-use Rattle.layout.specs.Members.{nth}
 use Rattle.layout.specs.Runs.{ownType}
 use Rattle.layout.specs.Write.{ARRAYINFO}
 use Rattle.area.specs.declared.Round.{Round}
@@ -56,10 +55,6 @@ itemCount v = cond (eqb (v .kind) Array) (v .b) 0
 -- how many pairs a map has
 abbrev pub pairCount : Row → ℕ
 pairCount v = cond (eqb (v .kind) Map) (v .b) 0
-
--- an array is by pointer where the subtype is 0, or 4 and the elements' subtype 3
-abbrev pub byPointer : ℕ → ℕ → Bool
-byPointer sub elements = eqb sub 0 || (eqb sub 4 && eqb elements 3)
 
 -- the smaller of two
 abbrev pub least : ℕ → ℕ → ℕ

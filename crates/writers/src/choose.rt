@@ -30,7 +30,7 @@ ghost use Rattle.area.specs.Area.{itemsAt, stackAt, envOf};
 ghost use Rattle.area.specs.Posts.{Safe, Open};
 ghost use Rattle.members.specs.Names.{defOf, memberOf, lookedIs};
 ghost use Rattle.members.specs.Posts.{Buffer};
-ghost use Rattle.writers.specs.Sources.{infoIs, Owned, itemCount, pairCount, byPointer, least};
+ghost use Rattle.writers.specs.Sources.{infoIs, Owned, itemCount, pairCount, least};
 ghost use Rattle.writers.specs.Posts.{Embeds, Lodges};
 
 // The structure that a row by pointer is: its own type's, where there is one, else the reference's.
@@ -104,7 +104,7 @@ pub fn pair_count(v: Row) -> u32
 
 // Whether an array is by pointer.
 pub fn by_pointer(sub: u8, elements: u8) -> bool
-    ensures { λ r. ⌜ r ≡ byPointer sub elements ⌝ }
+    ensures { λ r. ⌜ r ≡ Write.byPointer sub elements ⌝ }
 {
     (sub == 0) | ((sub == 4) & (elements == 3))
 }

@@ -200,7 +200,7 @@ fn write_inline(
     }
 }
 
-// A structure by pointer; without a Struct the pointer stays zero.
+// A structure by pointer; without a Struct nothing is written.
 fn write_pointed(
     sheet: &[u8],
     schema: &[u8],
@@ -279,7 +279,7 @@ fn point_to(
     }
 }
 
-// An array, by pointer or inline.
+// An array, by pointer or embedded.
 fn write_array(
     sheet: &[u8],
     schema: &[u8],
@@ -349,7 +349,7 @@ fn write_laid(
     }
 }
 
-// An array inline: first the run with all that it lays, remarks and uses, then does it fit.
+// An embedded array: first the run with all that it lays, remarks and uses, then does it fit.
 fn write_embedded(
     sheet: &[u8],
     schema: &[u8],

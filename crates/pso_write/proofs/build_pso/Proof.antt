@@ -46,9 +46,9 @@ use denote.Triple.Clauses.{ensured, lasts}
 use denote.Triple.Table.{entered, cited}
 use denote.Triple.Walked.{says, walkOf, goes-none-slice, goes-slice, goes-gave-slice, Walks, ends-at, walked, walk-meets}
 use denote.Exit.{yes}
-use Rattle.layout.specs.Build.{zeroRemark}
+use Rattle.layout.specs.Build.{zeroRemark, filled}
 use Rattle.layout.specs.declared.Remark.{Remark}
-use Rattle.pso_write.specs.Merge.{filled, Begins, Steps}
+use Rattle.pso_write.specs.Merge.{Begins, Steps}
 use Rattle.pso_write.specs.declared.Built.{Built}
 use Rattle.pso_write.specs.declared.Stage.{Stage as St}
 use Rattle.pso_write.specs.declared.Turn.{Turn}

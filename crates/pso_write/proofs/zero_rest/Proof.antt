@@ -47,9 +47,8 @@ use denote.Triple.Clauses.{ensured, lasts}
 use denote.Triple.Table.{entered, cited}
 use denote.Triple.Walked.{says, Stays, stay-none, stay-slice, walkOf, goes-none, goes-slice, Walks, ends-at, walked, walk-meets}
 use denote.Exit.{yes}
-use Rattle.layout.specs.Build.{zeroRemark}
+use Rattle.layout.specs.Build.{zeroRemark, filled}
 use Rattle.layout.specs.declared.Remark.{Remark}
-use Rattle.pso_write.specs.Merge.{filled}
 use Rattle.pso_write.proofs.Again.{LentAgain, lends-at, back-at}
 use Rattle.layout.proofs.Remark as T
 use Rattle.layout.proofs.Remark.Laws as T′

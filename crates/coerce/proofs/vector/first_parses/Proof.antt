@@ -21,7 +21,7 @@ first-parses-spec =
     tie.close
     (tie.spec
     Inv-loop μ-loop (λ c. (omega arith, refl)) (λ c κs. search needs) (λ c κs. search needs) (λ c κs. search needs) (λ c κs. search needs)
-    (λ c. let a = c .before .before .before .before .before .before .before .before .args in Vectors.first-here (a .s .now) _ (c .before .before .before .before .before .before .loop .i) _ (c .before .before .before .before .part-from .ensures) (c .before .before .before .run-of .ensures .0) _ _ (c .before .before .if1 .taken) (c .before .before .before .run-of .ensures .1) (c .before .part-to .ensures) (c .parses-float .ensures) ∙ c .before .before .before .before .before .before .loop .inv .1)
+    (λ c. let a = c .before .before .before .before .before .before .before .before .args in Vectors.first-here (a .s .now) _ (c .before .before .before .before .before .before .loop .i) _ (c .before .before .before .before .part-from .ensures) (c .before .before .before .until-parting .ensures .0) _ _ (c .before .before .if1 .taken) (c .before .before .before .until-parting .ensures .1) (c .before .part-to .ensures) (c .parses-float .ensures) ∙ c .before .before .before .before .before .before .loop .inv .1)
     (λ c. omega arith) (λ c. omega arith)
-    (λ c. (omega arith, Vectors.first-turn (c .before .before .before .before .before .before .args .s .now) _ (c .before .before .before .before .loop .i) _ (c .before .before .part-from .ensures) (c .before .run-of .ensures .0) (c .if1 .left) ∙ c .before .before .before .before .loop .inv .1))
+    (λ c. (omega arith, Vectors.first-turn (c .before .before .before .before .before .before .args .s .now) _ (c .before .before .before .before .loop .i) _ (c .before .before .part-from .ensures) (c .before .until-parting .ensures .0) (c .if1 .left) ∙ c .before .before .before .before .loop .inv .1))
     (λ c. Vectors.first-done (c .before .before .before .args .s .now) (c .before .loop .i) (c .loop-test .left) ∙ c .before .loop .inv .1))

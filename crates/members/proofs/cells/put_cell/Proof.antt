@@ -59,7 +59,7 @@ put-cell-spec =
     (λ c. search needs)
     (λ c.
     let a = c .before .before .before .before .before .before .before .before .before .before .before .args in
-    put-hash (a .sheet .now) (a .schema .now) (a .v) (a .cell) (a .buf .now) (a .off) _ _ _ _ (c .before .before .before .before .before .before .enum-told2 .given .1) (c .before .before .before .before .hash-of .ensures) (c .before .before .before .hash-bits .ensures) (c .before .before .put-bits2 .ensures))
+    put-hash (a .sheet .now) (a .schema .now) (a .v) (a .cell) (a .buf .now) (a .off) _ _ _ _ (c .before .before .before .before .before .before .enum-told2 .given .1) (c .before .before .before .before .hash-of .ensures) (c .before .before .before .found-bits .ensures) (c .before .before .put-bits2 .ensures))
     (λ c. search needs)
     (λ c.
     let a = c .before .before .before .before .before .before .before .before .before .before .before .args in

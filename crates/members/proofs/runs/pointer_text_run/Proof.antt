@@ -6,9 +6,9 @@ use lib.ListN.{length}
 use borrow.Author.Needs.{needs}
 use Rattle.value.specs.Rows.{rowsFrom}
 use Rattle.layout.specs.Members.{slotSize}
-use Rattle.layout.specs.Runs.{textElement}
+use Rattle.layout.specs.Runs.{textElement, slotBlock}
 use Rattle.area.specs.Area.{envOf}
-use Rattle.members.specs.Posts.{anySchema, slotBlock}
+use Rattle.members.specs.Posts.{anySchema}
 use Rattle.members.proofs.Choosing.{text-short}
 use Rattle.members.proofs.Loops.{Ready, runCost, paid-done, ready, length-rowsFrom, run-begin, run-kept, run-too-dear}
 use Rattle.members.proofs.CellRuns.{Texts, texts-room, texts-turn, texts-stopped}

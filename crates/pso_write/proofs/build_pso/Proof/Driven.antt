@@ -12,10 +12,10 @@ use mir.Val.{Val, vint}
 use denote.Laws.{Is}
 use denote.Builtin.{usize}
 use denote.Struct.Laws as LL
-use Rattle.layout.specs.Build.{zeroRemark, buildPso}
+use Rattle.layout.specs.Build.{zeroRemark, buildPso, filled}
 use Rattle.layout.specs.declared.Remark.{Remark}
 use Rattle.pso_write.specs.Answers.{leaves}
-use Rattle.pso_write.specs.Merge.{filled, Closing, Inv, turns as turns-left, Ready, Steps, Ends}
+use Rattle.pso_write.specs.Merge.{Closing, Inv, turns as turns-left, Ready, Steps, Ends}
 use Rattle.pso_write.specs.declared.Built.{Built}
 use Rattle.pso_write.specs.declared.Stage.{Stage as St}
 use Rattle.pso_write.specs.declared.Turn.{Turn}
