@@ -38,7 +38,7 @@ use Rattle.members.specs.declared.cells.Cell.{Cell}
 use Rattle.members.specs.declared.cells.Cell.the-variants as C
 use Rattle.members.specs.declared.kinds.Kind.{Kind}
 use Rattle.members.specs.Names.{defOf, memberOf, kindIs}
-use Rattle.members.specs.Cells.{cellBytes, cellSize, Sane}
+use Rattle.members.specs.Cells.{cellBytes, cellSize, Sane, scalarCell}
 use Rattle.members.specs.Posts as posts
 use Rattle.members.specs.Posts.{remarkOn, Buffer, Went, Fills, Slots, wroteIs, anySchema, cellMember, namedCell, plainMember}
 use Rattle.members.proofs.Filling.{def-size, need-yes, fills-as, stays, said, too-long}
@@ -98,12 +98,6 @@ unfolding fitM
 map-fit k (fits y) a u buf off s = refl
 map-fit k unfit a u buf off s = refl
 map-fit k floatText a u buf off s = refl
-
--- the cell of a scalar
-abbrev pub scalarCell : Kinds.Scalar → Cell
-scalarCell (Kinds.integer k) = C.Integer k
-scalarCell Kinds.single = C.Single
-scalarCell (Kinds.vector n) = C.Vector n
 
 scalar-bytes : (T F : Bytes) (x : Kinds.Scalar) (r : Row) → Kinds.scalarBytes T x r ≡ cellBytes T F (scalarCell x) r
 unfolding Kinds.scalarBytes cellBytes

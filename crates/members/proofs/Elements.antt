@@ -36,9 +36,8 @@ use Rattle.members.specs.declared.cells.Cell.the-variants as C
 use Rattle.members.specs.declared.Ran.{Ran}
 use Rattle.members.specs.declared.Ran.the-variants as Rn
 use Rattle.members.specs.Names.{defOf, memberOf}
-use Rattle.members.specs.Cells.{cellBytes, cellElement}
+use Rattle.members.specs.Cells.{cellBytes, cellElement, scalarCell}
 use Rattle.members.specs.Posts.{remarkOn, Grew, Yields, anySchema, plainRun}
-use Rattle.members.proofs.Choosing.{scalarCell}
 use Rattle.members.proofs.Filling.{went-noted}
 
 -- a remark stops a run

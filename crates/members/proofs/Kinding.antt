@@ -1,11 +1,11 @@
 -- The kind of a type byte, and its number. Assumes nothing.
-use Prim.Native.Nat.{ℕ, _≤_, _<_}
+use Prim.Native.Nat.{ℕ, suc, _≤_, _<_}
 use native.Mathlib.Omega.{arith}
 use mathlib.Core.Path.{_≡_, refl, sym, ap, _∙_, subst}
 use mathlib.Core.Logic.{_⊎_, inl, inr}
 use mathlib.Core.Bool.{Bool, true, false, cond, _||_}
 use lib.Dec.{leb, eqb}
-use borrow.Author.Tests.{le-leb, lt-leb, ne-eqb}
+use borrow.Author.Tests.{le-leb, lt-leb, ne-eqb, eqb-true, eqb-false}
 use Rattle.layout.specs.Kinds
 use Rattle.layout.specs.Kinds.{scalar, integer, vector, other, kindOf, kindNumber, typeNumber}
 use Rattle.members.specs.Names.{kindIs}
@@ -35,6 +35,23 @@ pub fours : (x : ℕ) → (x ≡ 10) ⊎ (x ≡ 21) → scalar (vector 4) ≡ ki
 unfolding kindOf
 fours x (inl e) = rw e refl
 fours x (inr e) = rw e refl
+
+-- a byte from 7 to 13 that is no f32, vector or text
+pub left-out : (x : ℕ) → 7 ≤ x → x < 14 → (x ≡ 7 → ⊥) → (x ≡ 8 → ⊥) → ((x ≡ 9) ⊎ (x ≡ 20) → ⊥) → ((x ≡ 10) ⊎ (x ≡ 21) → ⊥) → (x ≡ 11 → ⊥) → (x ≡ 12) ⊎ (x ≡ 13)
+left-out x l h a b c d e = go (eqb x 12) refl
+  where
+    past : (k : ℕ) → k ≤ x → (x ≡ k → ⊥) → suc k ≤ x
+    past k p z = omega (arith, p, z)
+
+    go : (t : Bool) → eqb x 12 ≡ t → (x ≡ 12) ⊎ (x ≡ 13)
+    go true q = inl (eqb-true x 12 q)
+    go false q =
+        let n : x ≡ 12 → ⊥ = eqb-false x 12 q in
+        let c′ : x ≡ 9 → ⊥ = λ z. c (inl z) in
+        let d′ : x ≡ 10 → ⊥ = λ z. d (inl z) in
+        let nine : 9 ≤ x = past 8 (past 7 l a) b in
+        let twelve : 12 ≤ x = past 11 (past 10 (past 9 nine c′) d′) e in
+        inr (omega (arith, past 12 twelve n, h))
 
 -- a byte from 7 on that is none of those that are something
 pub no-other : (x : ℕ) → 7 ≤ x → (x ≡ 30 → ⊥) → (x ≡ 7 → ⊥) → (x ≡ 8 → ⊥) → ((x ≡ 9) ⊎ (x ≡ 20) → ⊥) → ((x ≡ 10) ⊎ (x ≡ 21) → ⊥) → (x ≡ 11 → ⊥) → (x ≡ 12 → ⊥)

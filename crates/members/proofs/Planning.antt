@@ -32,11 +32,11 @@ use Rattle.members.specs.declared.kinds.Kind.{Kind}
 use Rattle.members.specs.declared.plan.Plan.{Plan}
 use Rattle.members.specs.declared.plan.Plan.the-variants as P
 use Rattle.members.specs.Names.{defOf, memberOf, kindIs}
-use Rattle.members.specs.Cells.{Sane, cellSize}
+use Rattle.members.specs.Cells.{Sane, cellSize, scalarCell}
 use Rattle.members.specs.Posts.{Fills, namedCell, namedMember, plainMember}
-use Rattle.members.specs.Plans.{planned, InOrder, Knows, Plans, PlansNamed, PlansKind}
+use Rattle.members.specs.Plans.{scalarPlan, fixedPlan, planned, InOrder, Knows, Plans, PlansNamed, PlansKind}
 use Rattle.members.proofs.Filling.{fills-as}
-use Rattle.members.proofs.Choosing.{scalarCell, scalar-cell, fixed-cell, hash-cell, named-cell, named-sane}
+use Rattle.members.proofs.Choosing.{scalar-cell, fixed-cell, hash-cell, named-cell, named-sane}
 
 seven-eight : (x : ℕ) → 7 ≤ x → x < 9 → eqb x 7 || eqb x 8 ≡ true
 seven-eight x h g = go (eqb x 7) refl
@@ -86,11 +86,11 @@ module _ (F : Bytes) (d : Def) (m : coded.Member) where
         far k a b (inl l) z = a (omega (arith, z))
         far k a b (inr l) z = b (omega (arith, z))
 
-  pub text-fixed : (len : ℕ) → m .subtype ≡ 0 → len ≡ high16 (m .reference) → len < 65536 → Plans F d m textMember (P.Store (C.Fixed len) len false 0)
-  text-fixed len h g l = record {
+  pub text-fixed : m .subtype ≡ 0 → high16 (m .reference) < 65536 → Plans F d m textMember (fixedPlan (m .reference))
+  text-fixed h l = record {
     order = (omega (arith, l), refl, omega (arith, l));
     knows = λ S y. unused 0 S;
-    is = λ T R S y v buf s. ap (λ (x : M Bytes). x s) (fixed-is T R S v buf h) ∙ rw g (fixed-cell T F S R D e v buf s);
+    is = λ T R S y v buf s. ap (λ (x : M Bytes). x s) (fixed-is T R S v buf h) ∙ fixed-cell T F S R D e v buf s;
   }
 
   pub text-pointed : (m .subtype ≡ 0 → ⊥) → m .subtype < 4 → Plans F d m textMember P.Pointer
@@ -138,38 +138,41 @@ module _ (F : Bytes) (d : Def) (m : coded.Member) where
           rw (q, size) (named-cell T F S R D e v buf s flags true h from count (ap isSome u) g);
     }
 
-  -- a member by its kind
-  pub plan-kind : (x k : Kind) (r : Plan) → kindIs x ≡ Kinds.kindOf (m .kind) → x ≡ k → PlansKind F d m (kindIs k) r → PlansKind F d m (Kinds.kindOf (m .kind)) r
-  plan-kind x k r h g a = subst (λ (y : Kinds.Kind). PlansKind F d m y r) (ap kindIs (sym g) ∙ h) a
+  -- a member whose kind is k
+  module _ (k : Kinds.Kind) (kind : k ≡ Kinds.kindOf (m .kind)) where
+    planned-as : (r : Plan) → PlansKind F d m k r → PlansKind F d m (Kinds.kindOf (m .kind)) r
+    planned-as r a = subst (λ (y : Kinds.Kind). PlansKind F d m y r) kind a
 
-  pub plan-scalar : (x : Kinds.Scalar) (size : ℕ) → size ≡ Kinds.sizeOf x → Sane (scalarCell x) → cellSize (scalarCell x) ≡ size → size < 2 ^ 40
-      → PlansKind F d m (Kinds.scalar x) (P.Store (scalarCell x) size false 0)
-  unfolding plainMember
-  plan-scalar x size g a b c = record { order = (a, b, c); knows = λ S y. unused 0 S; is = λ T R S y v buf s. rw g (scalar-cell T F S R D e v buf s x) }
+    pub plan-scalar : (x : Kinds.Scalar) (r : Plan) → k ≡ Kinds.scalar x → Sane (scalarCell x) → cellSize (scalarCell x) ≡ Kinds.sizeOf x → Kinds.sizeOf x < 2 ^ 40 → r ≡ scalarPlan x
+        → PlansKind F d m (Kinds.kindOf (m .kind)) r
+    unfolding plainMember
+    plan-scalar x r z a b c q =
+        planned-as r (rw (z, q) (record { order = (a, b, c); knows = λ S y. unused 0 S; is = λ T R S y v buf s. scalar-cell T F S R D e v buf s x }))
 
-  pub plan-text : (r : Plan) → Plans F d m textMember r → PlansKind F d m Kinds.text r
-  unfolding plainMember
-  plan-text r a = record { order = a .order; knows = a .knows; is = a .is }
+    pub plan-text : (r : Plan) → k ≡ Kinds.text → Plans F d m textMember r → PlansKind F d m (Kinds.kindOf (m .kind)) r
+    unfolding plainMember
+    plan-text r z a = planned-as r (rw z (record { order = a .order; knows = a .knows; is = a .is }))
 
-  pub plan-enum : (r : Plan) → PlansNamed F m false (m .reference) r → PlansKind F d m Kinds.enumeration r
-  unfolding plainMember enumMember
-  plan-enum r a = record { order = a d .order; knows = a d .knows; is = a d .is }
+    pub plan-enum : (r : Plan) → k ≡ Kinds.enumeration → PlansNamed F m false (m .reference) r → PlansKind F d m (Kinds.kindOf (m .kind)) r
+    unfolding plainMember enumMember
+    plan-enum r z a = planned-as r (rw z (record { order = a d .order; knows = a d .knows; is = a d .is }))
 
-  pub plan-flags : (h : ℕ) (r : Plan) → h ≡ referenceAt D (low12 (m .reference)) → PlansNamed F m true h r → PlansKind F d m Kinds.flags r
-  unfolding plainMember flagsMember
-  plan-flags h r g a = let b : PlansNamed F m true (referenceAt D (low12 (m .reference))) r = subst (λ (y : ℕ). PlansNamed F m true y r) g a in
-      record { order = b d .order; knows = b d .knows; is = b d .is }
+    pub plan-flags : (h : ℕ) (r : Plan) → k ≡ Kinds.flags → h ≡ referenceAt D (low12 (m .reference)) → PlansNamed F m true h r → PlansKind F d m (Kinds.kindOf (m .kind)) r
+    unfolding plainMember flagsMember
+    plan-flags h r z g a =
+        let b : PlansNamed F m true (referenceAt D (low12 (m .reference))) r = subst (λ (y : ℕ). PlansNamed F m true y r) g a in
+        planned-as r (rw z (record { order = b d .order; knows = b d .knows; is = b d .is }))
 
-  -- a structure, an array or a map is left to others
-  pub plan-left : (k : Kinds.Kind) → (k ≡ Kinds.structure) ⊎ ((k ≡ Kinds.array) ⊎ (k ≡ Kinds.map)) → PlansKind F d m k P.Nothing
-  unfolding plainMember
-  plan-left k (inl z) = rw z (record { order = tt; knows = λ S y. tt; is = λ T R S y v buf s. refl })
-  plan-left k (inr (inl z)) = rw z (record { order = tt; knows = λ S y. tt; is = λ T R S y v buf s. refl })
-  plan-left k (inr (inr z)) = rw z (record { order = tt; knows = λ S y. tt; is = λ T R S y v buf s. refl })
+    -- a structure, an array or a map is left to others
+    pub plan-left : (k ≡ Kinds.structure) ⊎ ((k ≡ Kinds.array) ⊎ (k ≡ Kinds.map)) → PlansKind F d m (Kinds.kindOf (m .kind)) P.Nothing
+    unfolding plainMember
+    plan-left (inl z) = planned-as P.Nothing (rw z (record { order = tt; knows = λ S y. tt; is = λ T R S y v buf s. refl }))
+    plan-left (inr (inl z)) = planned-as P.Nothing (rw z (record { order = tt; knows = λ S y. tt; is = λ T R S y v buf s. refl }))
+    plan-left (inr (inr z)) = planned-as P.Nothing (rw z (record { order = tt; knows = λ S y. tt; is = λ T R S y v buf s. refl }))
 
-  pub plan-other : PlansKind F d m Kinds.other (P.Remark 13 (m .kind))
-  unfolding plainMember
-  plan-other = record { order = tt; knows = λ S y. tt; is = λ T R S y v buf s. refl }
+    pub plan-other : k ≡ Kinds.other → PlansKind F d m (Kinds.kindOf (m .kind)) (P.Remark 13 (m .kind))
+    unfolding plainMember
+    plan-other z = planned-as (P.Remark 13 (m .kind)) (rw z (record { order = tt; knows = λ S y. tt; is = λ T R S y v buf s. refl }))
 
   -- the member is written as planned
   pub as-planned : (R : Round) (n : ℕ) (p : Progress) (w T : Bytes) (v : Value) (k : Kinds.Kind) (pl x : Plan) → PlansKind F d m k pl → pl ≡ x → (r : Wrote) (w' : Bytes)

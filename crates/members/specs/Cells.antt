@@ -16,6 +16,7 @@ use Rattle.coerce.specs.declared.whole.Bits.{Bits}
 use Rattle.coerce.specs.declared.whole.Bits.the-variants as B
 use Rattle.schema.specs.Psch.{entriesAt}
 use Rattle.layout.specs.State.{M, ret, fitM}
+use Rattle.layout.specs.Kinds
 use Rattle.members.specs.declared.cells.Cell.{Cell}
 use Rattle.members.specs.declared.cells.Cell.the-variants.{Integer, Single, Vector as Vec, Hash, Enum, Flags, Fixed}
 use Rattle.members.specs.declared.cells.Put.{Put}
@@ -50,6 +51,12 @@ cellBytes T F Hash v = fitOr (mapOption (bytesOf 4) (hashOf T v)) unfit
 cellBytes T F (Enum at n k) v = mapFit (bytesOf k) (enumValue T (entriesAt F n at) v)
 cellBytes T F (Flags at n k) v = mapFit (bytesOf k) (flagsBits 64 T (entriesAt F n at) v)
 cellBytes T F (Fixed len) v = textFit T len v
+
+-- the cell of a scalar
+abbrev pub scalarCell : Kinds.Scalar → Cell
+scalarCell (Kinds.integer k) = Integer k
+scalarCell Kinds.single = Single
+scalarCell (Kinds.vector n) = Vec n
 
 -- how many bytes a cell has
 abbrev pub cellSize : Cell → ℕ

@@ -1,7 +1,7 @@
 -- What is planned for a member that leads to no structure.
 use Prim.Native.Nat.{ℕ, _^_, _<_}
 use mathlib.Core.Path.{_≡_}
-use mathlib.Core.Bool.{Bool, true}
+use mathlib.Core.Bool.{Bool, true, false}
 use Rattle.numbers.specs.Words.{Bytes}
 use Rattle.numbers.specs.Result.{ok, isSome}
 use Rattle.value.specs.Rows.{Value}
@@ -9,17 +9,26 @@ use Rattle.schema.specs.Defs
 use Rattle.schema.specs.Defs.{Schema, StructDef, winning}
 use Rattle.schema.specs.Psch.{schemaOf}
 use Rattle.schema.specs.declared.members.Member as coded
-use Rattle.layout.specs.Kinds.{Kind}
+use Rattle.layout.specs.Kinds.{Scalar, Kind, sizeOf}
 use Rattle.layout.specs.State.{State, Env, M, ret}
-use Rattle.layout.specs.Members.{leaves, pointerMember, textMember}
+use Rattle.layout.specs.Members.{high16, leaves, pointerMember}
 use Rattle.area.specs.declared.Round.{Round}
 use Rattle.area.specs.Area.{envOf}
 use Rattle.members.specs.declared.Def.{Def}
+use Rattle.members.specs.declared.cells.Cell.the-variants as C
 use Rattle.members.specs.declared.plan.Plan.{Plan}
 use Rattle.members.specs.declared.plan.Plan.the-variants as P
 use Rattle.members.specs.Names.{defOf, memberOf}
-use Rattle.members.specs.Cells.{cellBytes, cellSize, Sane}
+use Rattle.members.specs.Cells.{cellBytes, cellSize, Sane, scalarCell}
 use Rattle.members.specs.Posts.{cellMember, namedMember, plainMember}
+
+-- a scalar in its cell
+abbrev pub scalarPlan : Scalar → Plan
+scalarPlan s = P.Store (scalarCell s) (sizeOf s) false 0
+
+-- a text in the structure itself
+abbrev pub fixedPlan : ℕ → Plan
+fixedPlan reference = P.Store (C.Fixed (high16 reference)) (high16 reference) false 0
 
 -- what a plan stands for, over the sheet T and the schema file F
 abbrev pub planned : Bytes → Bytes → Env → Plan → StructDef → Defs.Member → Value → Bytes → M Bytes
@@ -48,10 +57,6 @@ pub record Plans (F : Bytes) (d : Def) (m : coded.Member) (f : Env → StructDef
   pub knows : (S : Schema) → schemaOf F ≡ ok S → Knows S r
   pub is : (T : Bytes) (R : Round) (S : Schema) → schemaOf F ≡ ok S → (v : Value) (buf : Bytes) (s : State)
       → f (envOf T S R) (defOf F d) (memberOf m) v buf s ≡ planned T F (envOf T S R) r (defOf F d) (memberOf m) v buf s
-
--- .. of a text, whatever the schema file and the structure
-abbrev pub PlansText : coded.Member → Plan → Type 0
-PlansText m r = (F : Bytes) (d : Def) → Plans F d m textMember r
 
 -- .. of flags or an enum by the entries of the enum h
 abbrev pub PlansNamed : Bytes → coded.Member → Bool → ℕ → Plan → Type 0

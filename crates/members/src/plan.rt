@@ -1,8 +1,6 @@
 // What a member that leads to no structure is, decided before anything is written.
 use crate::Def;
 use crate::cells::Cell;
-use crate::kinds::Kind;
-use crate::kinds::kind_of;
 use crate::reference_at;
 use crate::slots::entries_at;
 use crate::slots::high_half;
@@ -11,11 +9,11 @@ use schema::lookup::find_enum;
 use schema::members::Member;
 use schema::members::entry_count;
 ghost use mathlib.Core.Path.{_≡_};
-ghost use Prim.Native.Nat.{_≤_};
+ghost use Prim.Native.Nat.{_≤_, _<_};
 ghost use Rattle.layout.specs.Kinds;
 ghost use Rattle.layout.specs.Members;
 ghost use Rattle.members.specs.Posts.{namedCell};
-ghost use Rattle.members.specs.Plans.{PlansText, PlansNamed, PlansKind};
+ghost use Rattle.members.specs.Plans.{scalarPlan, fixedPlan, PlansNamed, PlansKind};
 
 // A cell of so many bytes, with whether its enum is known and that one's name; a text by pointer; nothing; a kind of remark, with its detail.
 pub enum Plan {
@@ -23,22 +21,6 @@ pub enum Plan {
     Pointer,
     Nothing,
     Remark(u32, u32),
-}
-
-// A text, by its subtype.
-fn text_plan(m: Member) -> Plan
-    ensures { λ r. ⌜ PlansText m r ⌝ }
-{
-    let sub = m.subtype;
-    match sub {
-        0 => {
-            let len = high_half(m.reference) as usize;
-            Plan::Store(Cell::Fixed(len), len, false, 0)
-        }
-        1..=3 => Plan::Pointer,
-        7 | 8 => Plan::Store(Cell::Hash, 4, false, 0),
-        _ => Plan::Remark(3, m.subtype as u32),
-    }
 }
 
 // How many bytes an enum or flags member has.
@@ -77,23 +59,58 @@ fn named_plan(schema: &[u8], m: Member, h: u32, flags: bool) -> Plan
     }
 }
 
-// A member, by its kind.
+// A text in as many bytes as the reference's high half says.
+fn fixed(reference: u32) -> Plan
+    ensures { λ r. ⌜ (r ≡ fixedPlan reference) × (Members.high16 reference < 65536) ⌝ }
+{
+    let len = high_half(reference) as usize;
+    Plan::Store(Cell::Fixed(len), len, false, 0)
+}
+
+// A whole number of k bytes.
+fn whole(k: usize) -> Plan
+    ensures { λ r. ⌜ r ≡ scalarPlan (Kinds.integer k) ⌝ }
+{
+    Plan::Store(Cell::Integer(k), k, false, 0)
+}
+
+// A vector of n numbers.
+fn vector(n: usize) -> Plan
+    requires { ⌜ n ≤ 4 ⌝ }
+    ensures { λ r. ⌜ r ≡ scalarPlan (Kinds.vector n) ⌝ }
+{
+    Plan::Store(Cell::Vector(n), 4 * n, false, 0)
+}
+
+// A member, by its type byte and subtype.
 pub fn plan_of(schema: &[u8], d: Def, m: Member) -> Plan
     ensures { λ r. ⌜ PlansKind (now (schema .entry)) d m (Kinds.kindOf (m .kind)) r ⌝ }
 {
-    match kind_of(m.kind) {
-        Kind::Integer(k) => Plan::Store(Cell::Integer(k), k, false, 0),
-        Kind::Single => Plan::Store(Cell::Single, 4, false, 0),
-        Kind::Vector(n) => Plan::Store(Cell::Vector(n), 4 * n, false, 0),
-        Kind::Text => text_plan(m),
-        Kind::Enumeration => named_plan(schema, m, m.reference, false),
-        Kind::Flags => {
+    let ty = m.kind;
+    match ty {
+        0x00..=0x02 => whole(1),
+        0x03 | 0x04 | 0x1E => whole(2),
+        0x05 | 0x06 => whole(4),
+        0x07 => Plan::Store(Cell::Single, 4, false, 0),
+        0x08 => vector(2),
+        0x09 | 0x14 => vector(3),
+        0x0A | 0x15 => vector(4),
+        0x0B => {
+            let sub = m.subtype;
+            match sub {
+                0 => fixed(m.reference),
+                1..=3 => Plan::Pointer,
+                7 | 8 => Plan::Store(Cell::Hash, 4, false, 0),
+                _ => Plan::Remark(3, sub as u32),
+            }
+        }
+        0x0C | 0x0D | 0x10 => Plan::Nothing,
+        0x0E => named_plan(schema, m, m.reference, false),
+        0x0F => {
             let h = reference_at(schema, d, m.reference % 4096);
             named_plan(schema, m, h, true)
         }
-        Kind::Structure => Plan::Nothing,
-        Kind::Array => Plan::Nothing,
-        Kind::Map => Plan::Nothing,
-        Kind::Other => Plan::Remark(13, m.kind as u32),
+        0x20 => whole(8),
+        _ => Plan::Remark(13, ty as u32),
     }
 }
