@@ -81,9 +81,15 @@ pub fn parses_float(s: &[u8]) -> bool {
     unsafe { leaf_parses_float(s.as_ptr(), s.len()) }
 }
 
-pub fn trim(s: &[u8]) -> Vec<u8> {
-    let mut out = vec![0; s.len()];
+/// The length of the trimmed text, and what then stands in a buffer of `room` bytes that held 9s.
+pub fn trim_into(s: &[u8], room: usize) -> (usize, Vec<u8>) {
+    let mut out = vec![9; room];
     let n = unsafe { leaf_trim(s.as_ptr(), s.len(), out.as_mut_ptr(), out.len()) };
+    (n, out)
+}
+
+pub fn trim(s: &[u8]) -> Vec<u8> {
+    let (n, mut out) = trim_into(s, s.len());
     out.truncate(n);
     out
 }
@@ -103,9 +109,15 @@ pub fn vec_of(s: &[u8], wanted: usize) -> Fit<[u32; 4]> {
     Fit { code: r.code, value: r.v }
 }
 
-pub fn str_of(s: &[u8]) -> Option<Vec<u8>> {
-    let mut out = vec![0; s.len()];
+/// The length of row 0's text, and what then stands in a buffer of `room` bytes that held 9s.
+pub fn str_into(s: &[u8], room: usize) -> (usize, Vec<u8>) {
+    let mut out = vec![9; room];
     let n = unsafe { leaf_str_of(s.as_ptr(), s.len(), 0, out.as_mut_ptr(), out.len()) };
+    (n, out)
+}
+
+pub fn str_of(s: &[u8]) -> Option<Vec<u8>> {
+    let (n, mut out) = str_into(s, s.len());
     out.truncate(n);
     unsafe { leaf_has_str(s.as_ptr(), s.len(), 0) }.then_some(out)
 }

@@ -110,22 +110,30 @@ fn texts(r: &mut Random) {
     let mut one = |s: &str| {
         let b = s.as_bytes();
         same("joaat", s, leaf::joaat(b), hash::rage_joaat(s));
-        for radix in [10, 16] {
+        for radix in [2, 10, 16, 36] {
             same("i64_of", (s, radix), leaf::i64_of(b, radix as u64), of(i64::from_str_radix(s, radix).ok()));
             same("u64_of", (s, radix), leaf::u64_of(b, radix as u64), of(u64::from_str_radix(s, radix).ok()));
+        }
+        for radix in [0, 1, 37, u64::MAX] {
+            same("i64_of", (s, radix), leaf::i64_of(b, radix), of(None));
+            same("u64_of", (s, radix), leaf::u64_of(b, radix), of(None));
         }
         same("i64_of", s, leaf::i64_of(b, 10), of(s.parse().ok()));
         same("u64_of", s, leaf::u64_of(b, 10), of(s.parse().ok()));
         same("hex_u32_of", s, leaf::hex_u32_of(b), of(u32::from_str_radix(s, 16).ok()));
         same("parses_float", s, leaf::parses_float(b), oracle::parses(s));
+        let t = s.trim().len();
         same("trim", s, leaf::trim(b), s.trim().as_bytes().to_vec());
+        if 0 < t {
+            same("trim without room", s, leaf::trim_into(b, t - 1), (t, vec![9; t - 1]));
+        }
         n += 1;
     };
     rows::TEXTS.iter().for_each(|s| one(s));
     for _ in 0..5_000_000 {
         one(&text(r));
     }
-    done("texts: joaat, integers of radix 10 and 16, the float grammar, trim", n, t);
+    done("texts: joaat, integers of radix 2, 10, 16, 36 and of none, the float grammar, trim", n, t);
     let t = Instant::now();
     for k in 0..200_000 {
         let s: String = (0..r.below(300)).map(|_| char::from_u32((r.next() >> 20) as u32 % 0x800).unwrap_or('x')).collect();
@@ -193,6 +201,9 @@ fn coercions(v: &MetaValue, members: &[(u32, i32)], schema: &[u8], at: usize, ta
     }
     let text = coerce::str_of(v).map(String::into_bytes);
     note(3, text.is_none() as u32);
+    if let Some(n) = text.as_ref().map(Vec::len).filter(|n| 0 < *n) {
+        same("str_of without room", v, leaf::str_into(&s, n - 1), (n, vec![9; n - 1]));
+    }
     same(NAMES[3], v, leaf::str_of(&s), text);
     note(4, held(4, v, leaf::hash_of(&s), oracle::hash(v)));
     note(5, held(5, v, leaf::enum_value(&s, schema, at, n), oracle::enum_value(v, members)));
@@ -208,6 +219,11 @@ fn all_coercions(r: &mut Random) {
     for v in &fixed {
         coercions(v, &members, &schema, 5, &mut tally);
         coercions(v, &[], &schema, 5, &mut tally);
+        let s = sheet::sheet(v);
+        for (at, n) in [(1 << 63, 0), (usize::MAX, 1), (5, 1 << 24), (usize::MAX, usize::MAX)] {
+            same("enum_value of no entries", (v, at, n), leaf::enum_value(&s, &schema, at, n), of(None));
+            same("flags_bits of no entries", (v, at, n), leaf::flags_bits(&s, &schema, at, n), of(None));
+        }
     }
     done("coercions of the fixed rows, with entries and with none", 2 * fixed.len() as u64, t);
     let t = Instant::now();

@@ -1,10 +1,13 @@
 -- Answers as codes with values: 0 a value, 1 none, 11 a float's text.
-use Prim.Native.Nat.{ℕ}
-use mathlib.Core.Bool.{Bool, cond}
-use mathlib.Core.List.{List, [], _∷_}
-use lib.Dec.{eqb}
-use lib.IntN.{pos}
-use Rattle.numbers.specs.Words.{Bytes}
+use Prim.Native.Nat.{ℕ, _^_}
+use mathlib.Core.Bool.{Bool, cond, _&&_}
+use mathlib.Core.List.{List, []}
+use mathlib.Core.Option.{Option, none}
+use lib.Dec.{leb, ltb}
+use lib.IntN.{ℤ, pos}
+use lib.ListN.{length, getD}
+use Rattle.numbers.specs.Words.{Bytes, over}
+use Rattle.numbers.specs.Radix.{signed, unsigned}
 use Rattle.numbers.specs.Result.{isSome, orValue}
 use Rattle.numbers.specs.declared.parse.Number.{Number}
 use Rattle.numbers.specs.declared.parse.Number.the-variants as N
@@ -13,7 +16,9 @@ use Rattle.numbers.specs.declared.parse.Whole.the-variants as W
 use Rattle.numbers.specs.declared.parse.Word.{Word}
 use Rattle.numbers.specs.declared.parse.Word.the-variants as D
 use Rattle.value.specs.Rows
+use Rattle.schema.specs.Psch.{entriesAt}
 use Rattle.coerce.specs.Numbers.{Fit, fits, unfit, floatText, strOf}
+use Rattle.coerce.specs.Names.{enumValue, flagsBits}
 use Rattle.coerce.specs.declared.whole.Int.{Int}
 use Rattle.coerce.specs.declared.whole.Int.the-variants as I
 use Rattle.coerce.specs.declared.whole.Bits.{Bits}
@@ -45,8 +50,39 @@ ofBits (B.Fits x) = record { code = 0; value = x }
 ofBits B.Unfit = record { code = 1; value = 0 }
 ofBits B.FloatText = record { code = 11; value = 0 }
 
-abbrev pub fourIs : Four → Fit (List ℕ)
-fourIs v = cond (eqb (v .code) 0) (fits (v .a ∷ v .b ∷ v .c ∷ v .d ∷ [])) (cond (eqb (v .code) 1) unfit floatText)
+-- a vector's four numbers
+abbrev pub fourOf : Fit (List ℕ) → Four
+fourOf (fits l) = record { code = 0; a = getD l 0 0; b = getD l 1 0; c = getD l 2 0; d = getD l 3 0 }
+fourOf unfit = record { code = 1; a = 0; b = 0; c = 0; d = 0 }
+fourOf floatText = record { code = 11; a = 0; b = 0; c = 0; d = 0 }
+
+-- a radix that a number can be written in
+abbrev pub isRadix : ℕ → Bool
+isRadix r = leb 2 r && leb r 36
+
+-- a signed number of 64 bits in a radix from 2 to 36; in any other there is none
+abbrev pub signedIn : ℕ → Bytes → Option ℤ
+signedIn r l = cond (isRadix r) (signed 64 r l) none
+
+-- the same unsigned
+abbrev pub unsignedIn : ℕ → Bytes → Option ℕ
+unsignedIn r l = cond (isRadix r) (unsigned 64 r l) none
+
+-- t at the front of o, or o as it is where t is longer
+abbrev pub fronted : Bytes → Bytes → Bytes
+fronted o t = cond (leb (length t) (length o)) (over o 0 t) o
+
+-- the places and counts of entries that are taken: an enum's count has three bytes
+abbrev pub areEntries : ℕ → ℕ → Bool
+areEntries n at = ltb at (2 ^ 63) && ltb n (2 ^ 24)
+
+-- row r of T as the value of an enum whose n entries stand at `at` of P; none where place or count is not taken
+abbrev pub enumIn : Bytes → Bytes → ℕ → ℕ → ℕ → Fit ℕ
+enumIn T P n at r = cond (areEntries n at) (enumValue T (entriesAt P n at) (Rows.row T r)) unfit
+
+-- the same as flag bits
+abbrev pub flagsIn : Bytes → Bytes → ℕ → ℕ → ℕ → Fit ℕ
+flagsIn T P n at r = cond (areEntries n at) (flagsBits 64 T (entriesAt P n at) (Rows.row T r)) unfit
 
 -- whether a row is a text
 abbrev pub hasStr : Bytes → Rows.Row → Bool

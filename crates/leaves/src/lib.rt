@@ -1,24 +1,21 @@
-// The leaves for a caller in Rust or C, for comparisons by running: each has its leaf's contract.
+// The leaves for a caller in Rust or C, for comparisons by running: each has its leaf's contract, and takes any input.
 // A code is 0 where there is a value, 1 where there is none, and 11 at a float's text.
 ghost use mathlib.Core.Path.{_≡_};
-ghost use Prim.Native.Nat.{_≤_, _<_, _^_};
+ghost use Prim.Native.Nat.{_^_};
 ghost use lib.IntN.{pos, _-ℤ_, _*ℤ_};
 ghost use lib.ListN.{length};
-ghost use Rattle.numbers.specs.Words.{over};
 ghost use Rattle.numbers.specs.Single.{value};
 ghost use Rattle.numbers.specs.Round.{Rounded, f32Of};
 ghost use Rattle.numbers.specs.Trunc.{i64Of};
-ghost use Rattle.numbers.specs.Radix.{signed, unsigned};
+ghost use Rattle.numbers.specs.Radix.{unsigned};
 ghost use Rattle.numbers.specs.Answer.{numberIs, wholeIs, wordIs};
-ghost use Rattle.numbers.specs.Result.{orValue};
 ghost use Rattle.hash.specs.Joaat.{joaat};
 ghost use Rattle.value.specs.Rows.{row};
-ghost use Rattle.schema.specs.Psch.{entriesAt};
 ghost use Rattle.coerce.specs.Text.{trimmed};
 ghost use Rattle.coerce.specs.Float.{parsesFloat};
-ghost use Rattle.coerce.specs.Numbers.{intOf, floatOf, vecOf, strOf};
-ghost use Rattle.coerce.specs.Names.{hashOf, enumValue, flagsBits};
-ghost use Rattle.coerce.specs.Answer.{intIs, bitsIs, vecIs, nothing};
+ghost use Rattle.coerce.specs.Numbers.{intOf, floatOf, vecOf};
+ghost use Rattle.coerce.specs.Names.{hashOf};
+ghost use Rattle.coerce.specs.Answer.{intIs, bitsIs, vecIs};
 ghost use Rattle.leaves.specs.Codes;
 use coerce::flags::flags_bits;
 use coerce::float::parses_float;
@@ -112,7 +109,7 @@ fn of_bits(n: Bits) -> Small
 }
 
 fn of_vector(v: Vector) -> Four
-    ensures { λ r. ⌜ Codes.fourIs r ≡ vecIs v ⌝ }
+    ensures { λ r. ⌜ r ≡ Codes.fourOf (vecIs v) ⌝ }
 {
     match v {
         Vector::Fits(a, b, c, d) => Four {
@@ -137,6 +134,17 @@ fn of_vector(v: Vector) -> Four
             d: 0,
         },
     }
+}
+
+// Puts t at the front of `out` where it fits, and gives its length.
+fn put_front(out: &mut [u8], t: &[u8]) -> usize
+    ensures { λ r. ⌜ (r ≡ length (now (t .entry))) × (now (out .exit) ≡ Codes.fronted (now (out .entry)) (now (t .entry))) ⌝ }
+{
+    let n = t.len();
+    if n <= out.len() {
+        copy(out, 0, t);
+    }
+    n
 }
 
 #[no_mangle]
@@ -167,22 +175,34 @@ pub extern "C" fn leaf_i64_of_f32(b: u32) -> i64
     i64_of_f32(b)
 }
 
+// A radix below 2 or above 36 gives code 1.
 #[no_mangle]
 pub extern "C" fn leaf_i64_of(s: &[u8], radix: u64) -> Signed
-    requires { ⌜ (2 ≤ radix) × (radix ≤ 36) ⌝ }
-    ensures { λ r. ⌜ r ≡ Codes.ofWhole (wholeIs (signed 64 radix (now (s .entry)))) ⌝ }
+    ensures { λ r. ⌜ r ≡ Codes.ofWhole (wholeIs (Codes.signedIn radix (now (s .entry)))) ⌝ }
 {
+    if radix < 2 {
+        return Signed { code: 1, value: 0 };
+    }
+    if 36 < radix {
+        return Signed { code: 1, value: 0 };
+    }
     match i64_of(s, radix) {
         Whole::Value(x) => Signed { code: 0, value: x },
         Whole::Bad => Signed { code: 1, value: 0 },
     }
 }
 
+// A radix below 2 or above 36 gives code 1.
 #[no_mangle]
 pub extern "C" fn leaf_u64_of(s: &[u8], radix: u64) -> Unsigned
-    requires { ⌜ (2 ≤ radix) × (radix ≤ 36) ⌝ }
-    ensures { λ r. ⌜ r ≡ Codes.ofNumber (numberIs (unsigned 64 radix (now (s .entry)))) ⌝ }
+    ensures { λ r. ⌜ r ≡ Codes.ofNumber (numberIs (Codes.unsignedIn radix (now (s .entry)))) ⌝ }
 {
+    if radix < 2 {
+        return Unsigned { code: 1, value: 0 };
+    }
+    if 36 < radix {
+        return Unsigned { code: 1, value: 0 };
+    }
     of_number(u64_of(s, radix))
 }
 
@@ -200,15 +220,12 @@ pub extern "C" fn leaf_parses_float(s: &[u8]) -> bool
     parses_float(s)
 }
 
-// The trimmed text at the front of `out`, and its length.
+// The trimmed text at the front of `out` where it fits, and its length.
 #[no_mangle]
 pub extern "C" fn leaf_trim(s: &[u8], out: &mut [u8]) -> usize
-    requires { ⌜ length (trimmed (now s)) ≤ length (now out) ⌝ }
-    ensures { λ r. ⌜ (r ≡ length (trimmed (now (s .entry)))) × (now (out .exit) ≡ over (now (out .entry)) 0 (trimmed (now (s .entry)))) ⌝ }
+    ensures { λ r. ⌜ (r ≡ length (trimmed (now (s .entry)))) × (now (out .exit) ≡ Codes.fronted (now (out .entry)) (trimmed (now (s .entry)))) ⌝ }
 {
-    let t = trim(s);
-    copy(out, 0, t);
-    t.len()
+    put_front(out, trim(s))
 }
 
 #[no_mangle]
@@ -227,7 +244,7 @@ pub extern "C" fn leaf_float_of(sheet: &[u8], r: usize) -> Small
 
 #[no_mangle]
 pub extern "C" fn leaf_vec_of(sheet: &[u8], r: usize, n: usize) -> Four
-    ensures { λ v. ⌜ Codes.fourIs v ≡ vecOf (now (sheet .entry)) n (row (now (sheet .entry)) r) ⌝ }
+    ensures { λ v. ⌜ v ≡ Codes.fourOf (vecOf (now (sheet .entry)) n (row (now (sheet .entry)) r)) ⌝ }
 {
     of_vector(vec_of(sheet, read_row(sheet, r), n))
 }
@@ -239,15 +256,12 @@ pub extern "C" fn leaf_has_str(sheet: &[u8], r: usize) -> bool
     has_str(read_row(sheet, r))
 }
 
-// A row's text at the front of `out`, and its length.
+// A row's text at the front of `out` where it fits, and its length.
 #[no_mangle]
 pub extern "C" fn leaf_str_of(sheet: &[u8], r: usize, out: &mut [u8]) -> usize
-    requires { ⌜ length (Codes.strHere (now sheet) r) ≤ length (now out) ⌝ }
-    ensures { λ v. ⌜ (v ≡ length (Codes.strHere (now (sheet .entry)) r)) × (now (out .exit) ≡ over (now (out .entry)) 0 (Codes.strHere (now (sheet .entry)) r)) ⌝ }
+    ensures { λ v. ⌜ (v ≡ length (Codes.strHere (now (sheet .entry)) r)) × (now (out .exit) ≡ Codes.fronted (now (out .entry)) (Codes.strHere (now (sheet .entry)) r)) ⌝ }
 {
-    let t = str_of(sheet, read_row(sheet, r));
-    copy(out, 0, t);
-    t.len()
+    put_front(out, str_of(sheet, read_row(sheet, r)))
 }
 
 #[no_mangle]
@@ -257,7 +271,7 @@ pub extern "C" fn leaf_hash_of(sheet: &[u8], r: usize) -> Small
     of_word(hash_of(sheet, read_row(sheet, r)))
 }
 
-// The n entries stand at `at` of the schema.
+// The n entries stand at `at` of the schema. A place of 2^63 or more, or a count of 2^24 or more, gives code 1.
 #[no_mangle]
 pub extern "C" fn leaf_enum_value(
     sheet: &[u8],
@@ -266,12 +280,18 @@ pub extern "C" fn leaf_enum_value(
     n: usize,
     r: usize,
 ) -> Small
-    requires { ⌜ (at < 2 ^ 63) × (n < 2 ^ 24) ⌝ }
-    ensures { λ v. ⌜ v ≡ Codes.ofBits (bitsIs (enumValue (now (sheet .entry)) (entriesAt (now (schema .entry)) n at) (row (now (sheet .entry)) r))) ⌝ }
+    ensures { λ v. ⌜ v ≡ Codes.ofBits (bitsIs (Codes.enumIn (now (sheet .entry)) (now (schema .entry)) n at r)) ⌝ }
 {
+    if 0x8000_0000_0000_0000 <= at {
+        return Small { code: 1, value: 0 };
+    }
+    if 0x100_0000 <= n {
+        return Small { code: 1, value: 0 };
+    }
     of_bits(enum_value(sheet, schema, at, n, read_row(sheet, r)))
 }
 
+// The n entries stand at `at` of the schema. A place of 2^63 or more, or a count of 2^24 or more, gives code 1.
 #[no_mangle]
 pub extern "C" fn leaf_flags_bits(
     sheet: &[u8],
@@ -280,8 +300,13 @@ pub extern "C" fn leaf_flags_bits(
     n: usize,
     r: usize,
 ) -> Small
-    requires { ⌜ (at < 2 ^ 63) × (n < 2 ^ 24) ⌝ }
-    ensures { λ v. ⌜ v ≡ Codes.ofBits (bitsIs (flagsBits 64 (now (sheet .entry)) (entriesAt (now (schema .entry)) n at) (row (now (sheet .entry)) r))) ⌝ }
+    ensures { λ v. ⌜ v ≡ Codes.ofBits (bitsIs (Codes.flagsIn (now (sheet .entry)) (now (schema .entry)) n at r)) ⌝ }
 {
+    if 0x8000_0000_0000_0000 <= at {
+        return Small { code: 1, value: 0 };
+    }
+    if 0x100_0000 <= n {
+        return Small { code: 1, value: 0 };
+    }
     of_bits(flags_bits(sheet, schema, at, n, 64, read_row(sheet, r)))
 }

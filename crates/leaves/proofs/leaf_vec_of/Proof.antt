@@ -3,6 +3,7 @@ use mathlib.Core.Path.{ap, _∙_}
 use borrow.Author.Needs.{needs}
 use Rattle.coerce.specs.Numbers.{vecOf}
 use Rattle.value.specs.Rows.{Row}
+use Rattle.leaves.specs.Codes
 use Rattle.leaves.proofs.leaf_vec_of.Statement.{statement}
 use Rattle.leaves.proofs.leaf_vec_of.Tie as tie
 
@@ -11,4 +12,4 @@ leaf-vec-of-spec =
     tie.close
     (tie.spec
     (λ c κs. search needs) (λ c κs. search needs) (λ c κs. search needs)
-    (λ c. c .of-vector .ensures ∙ c .before .vec-of .ensures ∙ ap (λ (v : Row). vecOf (c .before .before .before .before .args .sheet .now) (c .before .before .before .before .args .n) v) (c .before .before .read-row .ensures)))
+    (λ c. c .of-vector .ensures ∙ ap Codes.fourOf (c .before .vec-of .ensures ∙ ap (λ (v : Row). vecOf (c .before .before .before .before .args .sheet .now) (c .before .before .before .before .args .n) v) (c .before .before .read-row .ensures))))
