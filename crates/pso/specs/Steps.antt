@@ -23,16 +23,6 @@ use Rattle.pso.specs.declared.parse.State.{State}
 use Rattle.pso.specs.declared.parse.Saw.{Saw}
 use Rattle.pso.specs.declared.parse.Saw.the-variants as S
 
--- the root number of a PMAP section, and its rows lie in it
-pub record TableIn (P : Bytes) (root start count : ℕ) : Type 0 where
-  pub root-is : root ≡ readAt 4 P 8
-  pub few : start + 16 * count ≤ length P
-
--- .. where it isn't too short
-abbrev pub InTable : Bytes → Rows → Type 0
-InTable P (R.Table root start count) = TableIn P root start count
-InTable P R.Short = Unit {0}
-
 -- rows as a span of the file
 pub record Spans (F : Bytes) (bs : List Block) (r : Span) : Type 0 where
   pub says : bs ≡ blocksAt F (r .count) (r .start)

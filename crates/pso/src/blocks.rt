@@ -11,10 +11,10 @@ ghost use lib.ListN.{length, take, drop};
 ghost use Rattle.numbers.specs.Words.{readAt};
 ghost use Rattle.numbers.specs.Result.{ok, nth};
 ghost use Rattle.schema.specs.Sections.{sections};
-ghost use Rattle.pso.specs.Reader.{Pso, isLater, pmapOf, blockAt, parsePso};
+ghost use Rattle.pso.specs.Reader.{Pso, isLater, blockAt, parsePso};
 ghost use Rattle.pso.specs.Blocks.{numbered, sectionBlocks, blocksOf};
-ghost use Rattle.pso.specs.Answers.{rowsIs, rowIs};
-ghost use Rattle.pso.specs.Steps.{InTable, Spans};
+ghost use Rattle.pso.specs.Answers.{tableOf, rowIs};
+ghost use Rattle.pso.specs.Steps.{Spans};
 
 // The rows of a PMAP section.
 pub enum Rows {
@@ -38,7 +38,7 @@ fn is_later(p: &[u8]) -> bool
 
 // The rows of a PMAP section, or 16.
 pub fn read_rows(p: &[u8]) -> Rows
-    ensures { λ r. ⌜ (pmapOf (now (p .entry)) ≡ rowsIs (now (p .entry)) r) × InTable (now (p .entry)) r ⌝ }
+    ensures { λ r. ⌜ r ≡ tableOf (now (p .entry)) ⌝ }
 {
     if p.len() < 16 {
         return Rows::Short;

@@ -23,7 +23,7 @@ see-spec =
     let s = c .before .before .before .before .before .before .before .before .before in
     let a = s .args in
     let k = part-is (now (a .file)) (a .place) (a .len) in
-    let f = map-fits (a .s) (a .place) (a .len) (length (now (a .file))) _ (c .read-rows .result) (ap length k ∙ part-length (now (a .file)) (a .place) (a .len) (s .pre .0)) (s .pre .1) (s .pre .0) (c .read-rows .ensures .1) root start count e in
+    let f = map-fits (a .s) (a .place) (a .len) (length (now (a .file))) _ (c .read-rows .result) (ap length k ∙ part-length (now (a .file)) (a .place) (a .len) (s .pre .0)) (s .pre .1) (s .pre .0) (c .read-rows .ensures) root start count e in
     omega (arith, f))
     (λ c.
     let s = c .before .before .before .before .before .before .before .before .before .before in
