@@ -1,7 +1,7 @@
 -- Look-up of structures and their members, and the charge. Assumes nothing.
 use Prim.Native.Nat.{ℕ, zero, suc, _+_, _-_, _*_, _≤_, _<_}
 use native.Mathlib.Omega.{arith}
-use mathlib.Core.Path.{_≡_, refl, ap, _∙_}
+use mathlib.Core.Path.{_≡_, refl, sym, ap, _∙_}
 use mathlib.Core.Option.{none, some}
 use borrow.Author.Tests.{le-leb, lt-leb}
 use Rattle.numbers.specs.Words.{Bytes}
@@ -9,7 +9,8 @@ use Rattle.numbers.specs.Result.{ok, nth}
 use Rattle.schema.specs.Defs
 use Rattle.schema.specs.Defs.{Schema, winning}
 use Rattle.schema.specs.Psch.{schemaOf, structHere, memberAt, membersAt}
-use Rattle.schema.specs.Answers.{structFound, headHere, memberIs}
+use Rattle.schema.specs.Index.{lastPlace}
+use Rattle.schema.specs.Answers.{foundIs, structFound, headHere, memberIs}
 use Rattle.schema.specs.declared.lookup.Found.{Found}
 use Rattle.schema.specs.declared.lookup.Found.the-variants as found
 use Rattle.schema.specs.declared.members.Head.{Head}
@@ -18,7 +19,7 @@ use Rattle.layout.specs.Members.{referenceAt}
 use Rattle.area.specs.declared.Round.{Round}
 use Rattle.area.specs.declared.Progress.{Progress}
 use Rattle.area.specs.Area.{withPaid}
-use Rattle.members.specs.Names.{defOf, lookedIs}
+use Rattle.members.specs.Names.{defOf, lookedAt, lookedUp, lookedIs}
 use Rattle.members.specs.Posts.{paidIs}
 use Rattle.members.specs.declared.Def.{Def}
 use Rattle.members.specs.declared.Looked.the-variants as L
@@ -33,6 +34,16 @@ module _ (F : Bytes) (name : ℕ) (r : Found) (g : (S : Schema) → schemaOf F �
       → winning S .struct name ≡ lookedIs F (L.At (record { name = name; place = place; size = h .size; count = h .count }))
   unfolding defOf structHere
   looked-at place h e q S s = g S s ∙ (rw (e, q) refl)
+
+module _ (F : Bytes) (name : ℕ) (r : Found) (q : foundIs r ≡ lastPlace F 0 name) where
+  pub up-missing : r ≡ found.Nothing → L.Missing ≡ lookedUp F name
+  unfolding lookedUp
+  up-missing e = ap (lookedAt F name) (ap foundIs (sym e) ∙ q)
+
+  pub up-at : (place : ℕ) (h : Head) → r ≡ found.At place → h ≡ headHere F place
+      → L.At (record { name = name; place = place; size = h .size; count = h .count }) ≡ lookedUp F name
+  unfolding lookedUp
+  up-at place h e k = rw k (ap (lookedAt F name) (ap foundIs (sym e) ∙ q))
 
 -- ---- a member by number
 pub members-nth : (F : Bytes) (n at i : ℕ) → i < n → nth (membersAt F n at) i ≡ some (memberAt F (at + 12 * i))

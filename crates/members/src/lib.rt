@@ -16,7 +16,7 @@ ghost use Rattle.schema.specs.Defs.{Schema, winning};
 ghost use Rattle.schema.specs.Psch.{schemaOf};
 ghost use Rattle.layout.specs.Members;
 ghost use Rattle.area.specs.Posts.{Safe, Notes};
-ghost use Rattle.members.specs.Names.{defOf, lookedIs};
+ghost use Rattle.members.specs.Names.{defOf, lookedIs, lookedUp};
 ghost use Rattle.members.specs.Posts.{remarkOn, paidIs};
 
 pub mod cells;
@@ -55,6 +55,7 @@ pub enum Ran {
 
 // The structure that a name stands for.
 pub fn look_up(schema: &[u8], name: u32) -> Looked
+    ensures { λ r. ⌜ r ≡ lookedUp (now (schema .entry)) name ⌝ }
     ensures { λ r. ⌜ ((S : Schema) → schemaOf (now (schema .entry)) ≡ ok S → winning S .struct name ≡ lookedIs (now (schema .entry)) r) ⌝ }
 {
     match find_structure(schema, name) {

@@ -13,6 +13,7 @@ ghost use Rattle.schema.specs.Psch.{entriesAt};
 ghost use Rattle.layout.specs.Members;
 ghost use Rattle.area.specs.Area.{stackAt};
 ghost use Rattle.area.specs.Posts.{Safe};
+ghost use Rattle.members.specs.Names.{entriesFrom};
 ghost use Rattle.members.specs.Posts.{Slots};
 
 // A pointer at `at`.
@@ -83,6 +84,7 @@ pub fn high_half(x: u32) -> u32
 // Where the entries of the enum at a place begin; the file's end, where that is before it.
 pub fn entries_at(schema: &[u8], place: usize) -> usize
     requires { ⌜ place < length (now schema) ⌝ }
+    ensures { λ r. ⌜ r ≡ entriesFrom (now (schema .entry)) place ⌝ }
     ensures { λ r. ⌜ (r < 2 ^ 63) × ((n : ℕ) → entriesAt (now (schema .entry)) n r ≡ entriesAt (now (schema .entry)) n (place + 4)) ⌝ }
 {
     let at = place + 4;

@@ -24,8 +24,8 @@ use Rattle.area.specs.Area.{envOf}
 use Rattle.members.specs.declared.Def.{Def}
 use Rattle.members.specs.declared.Looked.{Looked}
 use Rattle.members.specs.declared.Looked.the-variants as L
-use Rattle.members.specs.Names.{defOf, memberOf, lookedIs}
-use Rattle.writers.specs.Sources.{infoIs, Owned, itemCount, pairCount, least}
+use Rattle.members.specs.Names.{defOf, memberOf, lookedIs, lookedUp}
+use Rattle.writers.specs.Sources.{infoIs, orLooked, ownUp, Owned, itemCount, pairCount, least}
 use Rattle.writers.specs.declared.choose.Info.the-variants as I
 use Rattle.writers.proofs.Nths.{count-members, nth-read, nth-past}
 
@@ -99,6 +99,12 @@ unfolding defOf
 looked-name F S name d e = named-winning S .structs name (defOf F d) e
 
 module _ (F : Bytes) (v : Row) (ref : ℕ) where
+  pub own-first : (d : Def) (r : Looked) → r ≡ L.At d → r ≡ lookedUp F (v .a) → L.At d ≡ ownUp F v ref
+  own-first d r e q = ap (λ (x : Looked). orLooked x (lookedUp F ref)) (sym e ∙ q)
+
+  pub own-second : (r x : Looked) → r ≡ L.Missing → r ≡ lookedUp F (v .a) → x ≡ lookedUp F ref → x ≡ ownUp F v ref
+  own-second r x e q k = k ∙ ap (λ (y : Looked). orLooked y (lookedUp F ref)) (sym e ∙ q)
+
   -- the schema has a structure of the row's own type
   pub own-here : (d : Def) (r : Looked) → r ≡ L.At d → ((S : Schema) → schemaOf F ≡ ok S → winning S .struct (v .a) ≡ lookedIs F r) → Owned F v ref (L.At d)
   own-here d r e h = record {

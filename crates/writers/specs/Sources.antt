@@ -17,7 +17,7 @@ use Rattle.area.specs.declared.Round.{Round}
 use Rattle.area.specs.Area.{envOf}
 use Rattle.members.specs.declared.Looked.{Looked}
 use Rattle.members.specs.declared.Looked.the-variants as L
-use Rattle.members.specs.Names.{memberOf, lookedIs}
+use Rattle.members.specs.Names.{memberOf, lookedIs, lookedUp}
 use Rattle.writers.specs.declared.source.Source.{Source}
 use Rattle.writers.specs.declared.source.Source.the-variants as S
 use Rattle.writers.specs.declared.choose.Info.{Info}
@@ -41,6 +41,15 @@ pub record NextNamed (d : StructDef) (count k r : ℕ) : Type 0 where
 abbrev pub infoIs : Info → Option Defs.Member
 infoIs (I.At m) = some (memberOf m)
 infoIs I.Missing = none
+
+-- the first, or else the second
+abbrev pub orLooked : Looked → Looked → Looked
+orLooked (L.At d) r = L.At d
+orLooked L.Missing r = r
+
+-- the structure that building finds under the row's own type, or else under the reference
+abbrev pub ownUp : Bytes → Row → ℕ → Looked
+ownUp F v reference = orLooked (lookedUp F (v .a)) (lookedUp F reference)
 
 -- "by pointer the row's own type counts where the schema has a structure of that name, else the reference"
 pub record Owned (F : Bytes) (v : Row) (reference : ℕ) (r : Looked) : Type 0 where

@@ -30,11 +30,12 @@ ghost use Rattle.area.specs.Area.{itemsAt, stackAt, envOf};
 ghost use Rattle.area.specs.Posts.{Safe, Open};
 ghost use Rattle.members.specs.Names.{defOf, memberOf, lookedIs};
 ghost use Rattle.members.specs.Posts.{Buffer};
-ghost use Rattle.writers.specs.Sources.{infoIs, Owned, itemCount, pairCount, least};
+ghost use Rattle.writers.specs.Sources.{infoIs, ownUp, Owned, itemCount, pairCount, least};
 ghost use Rattle.writers.specs.Posts.{Embeds, Lodges};
 
 // The structure that a row by pointer is: its own type's, where there is one, else the reference's.
 pub fn own_type(schema: &[u8], v: Row, reference: u32) -> Looked
+    ensures { λ r. ⌜ r ≡ ownUp (now (schema .entry)) v reference ⌝ }
     ensures { λ r. ⌜ Owned (now (schema .entry)) v reference r ⌝ }
 {
     match look_up(schema, v.a) {

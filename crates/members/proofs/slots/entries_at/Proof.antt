@@ -15,5 +15,5 @@ entries-at-spec =
     (λ c.
     let s = c .before in
     let f = s .args .schema .now in
-    (omega (arith, s .good), λ n. entries-behind f n (length f) (s .args .place + 4) (omega arith) (omega (arith, c .if1 .taken))))
-    (λ c. search needs))
+    (omega (arith, c .if1 .taken), (omega (arith, s .good), λ n. entries-behind f n (length f) (s .args .place + 4) (omega arith) (omega (arith, c .if1 .taken)))))
+    (λ c. (omega (arith, c .if1 .left), search needs)))

@@ -1,6 +1,6 @@
 -- `writers::choose::own_type` meets its contract. Assumes nothing.
 use denote.Ref.{now}
-use Rattle.writers.proofs.Choosing.{own-here, own-reference}
+use Rattle.writers.proofs.Choosing.{own-first, own-second, own-here, own-reference}
 use borrow.Author.Needs.{needs}
 use Rattle.writers.proofs.choose.own_type.Statement.{statement}
 use Rattle.writers.proofs.choose.own_type.Tie as tie
@@ -10,5 +10,17 @@ own-type-spec =
     tie.close
     (tie.spec
     (λ c κs. search needs) (λ c. search needs) (λ c. search needs) (λ c κs. search needs)
-    (λ c. own-here (now (c .before .before .before .before .before .args .schema)) (c .before .before .before .before .before .args .v) (c .before .before .before .before .before .args .reference) (c .before .d .given .0 .0) (c .before .before .before .look-up .result) (c .before .d .given .1) (c .before .before .before .look-up .ensures))
-    (λ c. own-reference (now (c .before .before .before .before .before .args .schema)) (c .before .before .before .before .before .args .v) (c .before .before .before .before .before .args .reference) (c .before .before .before .look-up .result) (c .look-up2 .result) (c .before .enum-told .given .1) (c .before .before .before .look-up .ensures) (c .look-up2 .ensures)))
+    (λ c.
+    let a = c .before .before .before .before .before .args in
+    let d = c .before .d .given .0 .0 in
+    let e = c .before .d .given .1 in
+    let l = c .before .before .before .look-up in
+    (own-first (now (a .schema)) (a .v) (a .reference) d (l .result) e (l .ensures .0), own-here (now (a .schema)) (a .v) (a .reference) d (l .result) e (l .ensures .1)))
+    (λ c.
+    let a = c .before .before .before .before .before .args in
+    let e = c .before .enum-told .given .1 in
+    let l = c .before .before .before .look-up in
+    let k = c .look-up2 in (
+      own-second (now (a .schema)) (a .v) (a .reference) (l .result) (k .result) e (l .ensures .0) (k .ensures .0),
+      own-reference (now (a .schema)) (a .v) (a .reference) (l .result) (k .result) e (l .ensures .1) (k .ensures .1),
+    )))

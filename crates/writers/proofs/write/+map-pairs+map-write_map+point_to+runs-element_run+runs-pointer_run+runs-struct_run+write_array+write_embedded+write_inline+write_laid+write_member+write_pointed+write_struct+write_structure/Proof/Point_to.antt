@@ -9,18 +9,18 @@ use Rattle.writers.proofs.write.+map-pairs+map-write_map+point_to+runs-
 use Rattle.writers.proofs.write.+map-pairs+map-write_map+point_to+runs-element_run+runs-pointer_run+runs-struct_run+write_array+write_embedded+write_inline+write_laid+write_member+write_pointed+write_struct+write_structure.Proof.Base.{point-to-at, point-to-calls}
 
 point-to-returns : (t : ℕ) → point-to-lts.Need-returns (point-to-calls t) (point-to-at t) point-to.Post
-point-to-returns t c = point-missing _ _ _ _ (c .before .before .before .before .before .before .before .before .before .before .before .args .sheet .now) (c .before .before .before .before .before .before .before .before .before .before .before .args .schema .now) (c .before .before .before .before .before .before .before .before .before .before .before .args .left) (c .before .before .before .before .before .before .before .before .before .before .before .args .d) (c .before .before .before .before .before .before .before .before .before .before .before .args .m) (c .before .before .before .before .before .before .before .before .before .before .before .args .reference) _ _ _ _ _ (c .before .before .before .before .before .before .before .before .before .before .before .pre .1 .0) (c .before .before .before .before .before .before .before .before .before .before .before .pre .1 .1) (c .before .before .before .before .before .before .before .read-row .ensures) (c .before .before .before .before .before .before .own-type .ensures) (c .before .before .before .before .enum-told .given .1) (c .before .before .say .ensures)
+point-to-returns t c = point-missing _ _ _ _ (c .before .before .before .before .before .before .before .before .before .before .before .args .sheet .now) (c .before .before .before .before .before .before .before .before .before .before .before .args .schema .now) (c .before .before .before .before .before .before .before .before .before .before .before .args .left) (c .before .before .before .before .before .before .before .before .before .before .before .args .d) (c .before .before .before .before .before .before .before .before .before .before .before .args .m) (c .before .before .before .before .before .before .before .before .before .before .before .args .reference) _ _ _ _ _ (c .before .before .before .before .before .before .before .before .before .before .before .pre .1 .0) (c .before .before .before .before .before .before .before .before .before .before .before .pre .1 .1) (c .before .before .before .before .before .before .before .read-row .ensures) (c .before .before .before .before .before .before .own-type .ensures .1) (c .before .before .before .before .enum-told .given .1) (c .before .before .say .ensures)
 
 point-to-returns-2 : (t : ℕ) → point-to-lts.Need-returns-2 (point-to-calls t) (point-to-at t) point-to.Post
-point-to-returns-2 t c = point-refused _ _ _ _ (c .before .before .before .before .before .before .before .before .before .before .before .before .before .before .before .args .sheet .now) (c .before .before .before .before .before .before .before .before .before .before .before .before .before .before .before .args .schema .now) (c .before .before .before .before .before .before .before .before .before .before .before .before .before .before .before .args .left) (c .before .before .before .before .before .before .before .before .before .before .before .before .before .before .before .args .d) (c .before .before .before .before .before .before .before .before .before .before .before .before .before .before .before .args .m) (c .before .before .before .before .before .before .before .before .before .before .before .before .before .before .before .args .reference) _ _ _ (c .before .before .before .before .before .before .before .before .i .given .0 .0) _ _ _ _ _ (c .before .before .before .before .before .before .before .before .before .before .before .read-row .ensures) (c .before .before .before .before .before .before .before .before .before .before .own-type .ensures) (c .before .before .before .before .before .before .before .before .i .given .1) refl
+point-to-returns-2 t c = point-refused _ _ _ _ (c .before .before .before .before .before .before .before .before .before .before .before .before .before .before .before .args .sheet .now) (c .before .before .before .before .before .before .before .before .before .before .before .before .before .before .before .args .schema .now) (c .before .before .before .before .before .before .before .before .before .before .before .before .before .before .before .args .left) (c .before .before .before .before .before .before .before .before .before .before .before .before .before .before .before .args .d) (c .before .before .before .before .before .before .before .before .before .before .before .before .before .before .before .args .m) (c .before .before .before .before .before .before .before .before .before .before .before .before .before .before .before .args .reference) _ _ _ (c .before .before .before .before .before .before .before .before .i .given .0 .0) _ _ _ _ _ (c .before .before .before .before .before .before .before .before .before .before .before .read-row .ensures) (c .before .before .before .before .before .before .before .before .before .before .own-type .ensures .1) (c .before .before .before .before .before .before .before .before .i .given .1) refl
     (c .before .before .before .before .before .write-struct .ensures) (c .before .k .given .1)
 
 point-to-returns-3 : (t : ℕ) → point-to-lts.Need-returns-3 (point-to-calls t) (point-to-at t) point-to.Post
-point-to-returns-3 t c = point-unlaid _ _ _ _ (c .before .before .before .before .before .before .before .before .before .before .before .before .before .before .before .before .before .before .before .before .before .before .before .args .sheet .now) (c .before .before .before .before .before .before .before .before .before .before .before .before .before .before .before .before .before .before .before .before .before .before .before .args .schema .now) (c .before .before .before .before .before .before .before .before .before .before .before .before .before .before .before .before .before .before .before .before .before .before .before .args .left) (c .before .before .before .before .before .before .before .before .before .before .before .before .before .before .before .before .before .before .before .before .before .before .before .args .d) (c .before .before .before .before .before .before .before .before .before .before .before .before .before .before .before .before .before .before .before .before .before .before .before .args .m) (c .before .before .before .before .before .before .before .before .before .before .before .before .before .before .before .before .before .before .before .before .before .before .before .args .reference) _ _ _ (c .before .before .before .before .before .before .before .before .before .before .before .before .before .before .before .before .i .given .0 .0) _ _ (c .before .before .before .before .before .before .before .before .before .t .given .0 .0) _ _ _ _ _ _ (c .before .before .before .before .before .before .before .before .before .before .before .before .before .before .before .before .before .before .before .read-row .ensures) (c .before .before .before .before .before .before .before .before .before .before .before .before .before .before .before .before .before .before .own-type .ensures) (c .before .before .before .before .before .before .before .before .before .before .before .before .before .before .before .before .i .given .1) refl
+point-to-returns-3 t c = point-unlaid _ _ _ _ (c .before .before .before .before .before .before .before .before .before .before .before .before .before .before .before .before .before .before .before .before .before .before .before .args .sheet .now) (c .before .before .before .before .before .before .before .before .before .before .before .before .before .before .before .before .before .before .before .before .before .before .before .args .schema .now) (c .before .before .before .before .before .before .before .before .before .before .before .before .before .before .before .before .before .before .before .before .before .before .before .args .left) (c .before .before .before .before .before .before .before .before .before .before .before .before .before .before .before .before .before .before .before .before .before .before .before .args .d) (c .before .before .before .before .before .before .before .before .before .before .before .before .before .before .before .before .before .before .before .before .before .before .before .args .m) (c .before .before .before .before .before .before .before .before .before .before .before .before .before .before .before .before .before .before .before .before .before .before .before .args .reference) _ _ _ (c .before .before .before .before .before .before .before .before .before .before .before .before .before .before .before .before .i .given .0 .0) _ _ (c .before .before .before .before .before .before .before .before .before .t .given .0 .0) _ _ _ _ _ _ (c .before .before .before .before .before .before .before .before .before .before .before .before .before .before .before .before .before .before .before .read-row .ensures) (c .before .before .before .before .before .before .before .before .before .before .before .before .before .before .before .before .before .before .own-type .ensures .1) (c .before .before .before .before .before .before .before .before .before .before .before .before .before .before .before .before .i .given .1) refl
     (c .before .before .before .before .before .before .before .before .before .before .before .before .before .write-struct .ensures) (c .before .before .before .before .before .before .before .before .before .t .given .1) (c .before .before .before .before .before .before .before .before .before .before .before .before .work2 .given) (c .before .before .before .before .before .lay .ensures) (c .before .k2 .given .1)
 
 point-to-returns-4 : (t : ℕ) → point-to-lts.Need-returns-4 (point-to-calls t) (point-to-at t) point-to.Post
-point-to-returns-4 t c = point-laid _ _ _ _ (c .before .before .before .before .before .before .before .before .before .before .before .before .before .before .before .before .before .before .before .before .before .before .before .args .sheet .now) (c .before .before .before .before .before .before .before .before .before .before .before .before .before .before .before .before .before .before .before .before .before .before .before .args .schema .now) (c .before .before .before .before .before .before .before .before .before .before .before .before .before .before .before .before .before .before .before .before .before .before .before .args .left) (c .before .before .before .before .before .before .before .before .before .before .before .before .before .before .before .before .before .before .before .before .before .before .before .args .d) (c .before .before .before .before .before .before .before .before .before .before .before .before .before .before .before .before .before .before .before .before .before .before .before .args .m) (c .before .before .before .before .before .before .before .before .before .before .before .before .before .before .before .before .before .before .before .before .before .before .before .args .reference) _ _ _ (c .before .before .before .before .before .before .before .before .before .before .before .before .before .before .before .before .i .given .0 .0) _ _ (c .before .before .before .before .before .before .before .before .before .t .given .0 .0) _ _ _ _ _ _ (c .before .before .before .before .before .before .before .before .before .before .before .before .before .before .before .before .before .before .before .before .before .before .before .pre .1 .0) (c .before .before .before .before .before .before .before .before .before .before .before .before .before .before .before .before .before .before .before .read-row .ensures) (c .before .before .before .before .before .before .before .before .before .before .before .before .before .before .before .before .before .before .own-type .ensures)
+point-to-returns-4 t c = point-laid _ _ _ _ (c .before .before .before .before .before .before .before .before .before .before .before .before .before .before .before .before .before .before .before .before .before .before .before .args .sheet .now) (c .before .before .before .before .before .before .before .before .before .before .before .before .before .before .before .before .before .before .before .before .before .before .before .args .schema .now) (c .before .before .before .before .before .before .before .before .before .before .before .before .before .before .before .before .before .before .before .before .before .before .before .args .left) (c .before .before .before .before .before .before .before .before .before .before .before .before .before .before .before .before .before .before .before .before .before .before .before .args .d) (c .before .before .before .before .before .before .before .before .before .before .before .before .before .before .before .before .before .before .before .before .before .before .before .args .m) (c .before .before .before .before .before .before .before .before .before .before .before .before .before .before .before .before .before .before .before .before .before .before .before .args .reference) _ _ _ (c .before .before .before .before .before .before .before .before .before .before .before .before .before .before .before .before .i .given .0 .0) _ _ (c .before .before .before .before .before .before .before .before .before .t .given .0 .0) _ _ _ _ _ _ (c .before .before .before .before .before .before .before .before .before .before .before .before .before .before .before .before .before .before .before .before .before .before .before .pre .1 .0) (c .before .before .before .before .before .before .before .before .before .before .before .before .before .before .before .before .before .before .before .read-row .ensures) (c .before .before .before .before .before .before .before .before .before .before .before .before .before .before .before .before .before .before .own-type .ensures .1)
     (c .before .before .before .before .before .before .before .before .before .before .before .before .before .before .before .before .i .given .1) refl (c .before .before .before .before .before .before .before .before .before .before .before .before .before .write-struct .ensures) (c .before .before .before .before .before .before .before .before .before .t .given .1) (c .before .before .before .before .before .before .before .before .before .before .before .before .work2 .given) (c .before .before .before .before .before .lay .ensures) (c .before .x .given .1)
 
 point-to-lay-requires : (t : ℕ) → point-to-lts.Need-lay-requires (point-to-calls t) (point-to-at t) point-to.Post

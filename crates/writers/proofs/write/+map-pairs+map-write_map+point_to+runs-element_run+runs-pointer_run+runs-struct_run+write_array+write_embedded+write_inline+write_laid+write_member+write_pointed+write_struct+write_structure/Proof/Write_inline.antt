@@ -15,18 +15,18 @@ write-inline-look-up-requires : (t : ℕ) → write-inline-lts.Need-look-up-requ
 write-inline-look-up-requires t c κs = search needs
 
 write-inline-returns : (t : ℕ) → write-inline-lts.Need-returns (write-inline-calls t) (write-inline-at t) write-inline.Post
-write-inline-returns t c = inline-long _ _ _ _ (c .before .before .before .before .before .before .before .before .before .before .before .before .before .before .args .sheet .now) (c .before .before .before .before .before .before .before .before .before .before .before .before .before .before .args .schema .now) (c .before .before .before .before .before .before .before .before .before .before .before .before .before .before .args .left) (c .before .before .before .before .before .before .before .before .before .before .before .before .before .before .args .d) (c .before .before .before .before .before .before .before .before .before .before .before .before .before .before .args .m) _ _ (c .before .before .before .before .before .before .before .before .i .given .0 .0) _ _ _ (c .before .before .before .before .before .before .before .before .before .before .before .before .before .before .pre .1 .0 .0) (c .before .before .before .before .before .before .before .before .before .before .before .before .before .before .pre .1 .0 .1) (c .before .before .before .before .before .before .before .before .before .before .look-up .ensures) (c .before .before .before .before .before .before .before .before .i .given .1)
+write-inline-returns t c = inline-long _ _ _ _ (c .before .before .before .before .before .before .before .before .before .before .before .before .before .before .args .sheet .now) (c .before .before .before .before .before .before .before .before .before .before .before .before .before .before .args .schema .now) (c .before .before .before .before .before .before .before .before .before .before .before .before .before .before .args .left) (c .before .before .before .before .before .before .before .before .before .before .before .before .before .before .args .d) (c .before .before .before .before .before .before .before .before .before .before .before .before .before .before .args .m) _ _ (c .before .before .before .before .before .before .before .before .i .given .0 .0) _ _ _ (c .before .before .before .before .before .before .before .before .before .before .before .before .before .before .pre .1 .0 .0) (c .before .before .before .before .before .before .before .before .before .before .before .before .before .before .pre .1 .0 .1) (c .before .before .before .before .before .before .before .before .before .before .look-up .ensures .1) (c .before .before .before .before .before .before .before .before .i .given .1)
     (c .before .before .before .before .before .fits2 .ensures) (not-true _ (c .before .before .before .before .if1 .taken)) (c .before .before .say2 .ensures)
 
 write-inline-returns-2 : (t : ℕ) → write-inline-lts.Need-returns-2 (write-inline-calls t) (write-inline-at t) write-inline.Post
-write-inline-returns-2 t c = inline-missing _ _ _ _ (c .before .before .before .before .before .before .before .before .before .before .args .sheet .now) (c .before .before .before .before .before .before .before .before .before .before .args .schema .now) (c .before .before .before .before .before .before .before .before .before .before .args .left) (c .before .before .before .before .before .before .before .before .before .before .args .d) (c .before .before .before .before .before .before .before .before .before .before .args .m) _ _ _ _ (c .before .before .before .before .before .before .before .before .before .before .pre .1 .0 .0) (c .before .before .before .before .before .before .before .before .before .before .pre .1 .0 .1) (c .before .before .before .before .before .before .look-up .ensures) (c .before .before .before .before .enum-told .given .1) (c .before .before .say .ensures)
+write-inline-returns-2 t c = inline-missing _ _ _ _ (c .before .before .before .before .before .before .before .before .before .before .args .sheet .now) (c .before .before .before .before .before .before .before .before .before .before .args .schema .now) (c .before .before .before .before .before .before .before .before .before .before .args .left) (c .before .before .before .before .before .before .before .before .before .before .args .d) (c .before .before .before .before .before .before .before .before .before .before .args .m) _ _ _ _ (c .before .before .before .before .before .before .before .before .before .before .pre .1 .0 .0) (c .before .before .before .before .before .before .before .before .before .before .pre .1 .0 .1) (c .before .before .before .before .before .before .look-up .ensures .1) (c .before .before .before .before .enum-told .given .1) (c .before .before .say .ensures)
 
 write-inline-returns-3 : (t : ℕ) → write-inline-lts.Need-returns-3 (write-inline-calls t) (write-inline-at t) write-inline.Post
-write-inline-returns-3 t c = inline-refused _ _ _ _ (c .before .before .before .before .before .before .before .before .before .before .before .before .before .before .before .before .before .before .args .sheet .now) (c .before .before .before .before .before .before .before .before .before .before .before .before .before .before .before .before .before .before .args .schema .now) (c .before .before .before .before .before .before .before .before .before .before .before .before .before .before .before .before .before .before .args .left) (c .before .before .before .before .before .before .before .before .before .before .before .before .before .before .before .before .before .before .args .d) (c .before .before .before .before .before .before .before .before .before .before .before .before .before .before .before .before .before .before .args .m) _ _ (c .before .before .before .before .before .before .before .before .before .before .before .before .i .given .0 .0) _ _ _ _ _ _ (c .before .before .before .before .before .before .before .before .before .before .before .before .before .before .look-up .ensures) (c .before .before .before .before .before .before .before .before .before .before .before .before .i .given .1)
+write-inline-returns-3 t c = inline-refused _ _ _ _ (c .before .before .before .before .before .before .before .before .before .before .before .before .before .before .before .before .before .before .args .sheet .now) (c .before .before .before .before .before .before .before .before .before .before .before .before .before .before .before .before .before .before .args .schema .now) (c .before .before .before .before .before .before .before .before .before .before .before .before .before .before .before .before .before .before .args .left) (c .before .before .before .before .before .before .before .before .before .before .before .before .before .before .before .before .before .before .args .d) (c .before .before .before .before .before .before .before .before .before .before .before .before .before .before .before .before .before .before .args .m) _ _ (c .before .before .before .before .before .before .before .before .before .before .before .before .i .given .0 .0) _ _ _ _ _ _ (c .before .before .before .before .before .before .before .before .before .before .before .before .before .before .look-up .ensures .1) (c .before .before .before .before .before .before .before .before .before .before .before .before .i .given .1)
     (c .before .before .before .before .before .before .before .before .before .fits2 .ensures) (not-false _ (c .before .before .before .before .before .before .before .before .if1 .left)) (c .before .before .before .before .before .before .source-of .ensures (c .before .before .before .before .before .before .before .before .before .before .before .before .before .before .before .before .before .before .args .sheet .now)) (c .before .before .before .before .before .write-struct .ensures) (c .before .k .given .1)
 
 write-inline-returns-4 : (t : ℕ) → write-inline-lts.Need-returns-4 (write-inline-calls t) (write-inline-at t) write-inline.Post
-write-inline-returns-4 t c = inline-done _ _ _ _ (c .before .before .before .before .before .before .before .before .before .before .before .before .before .before .before .before .before .before .before .before .before .before .before .before .args .sheet .now) (c .before .before .before .before .before .before .before .before .before .before .before .before .before .before .before .before .before .before .before .before .before .before .before .before .args .schema .now) (c .before .before .before .before .before .before .before .before .before .before .before .before .before .before .before .before .before .before .before .before .before .before .before .before .args .left) (c .before .before .before .before .before .before .before .before .before .before .before .before .before .before .before .before .before .before .before .before .before .before .before .before .args .d) (c .before .before .before .before .before .before .before .before .before .before .before .before .before .before .before .before .before .before .before .before .before .before .before .before .args .m) _ _ (c .before .before .before .before .before .before .before .before .before .before .before .before .before .before .before .before .before .before .i .given .0 .0) _ _ _ (c .before .before .before .before .before .before .before .t .given .0 .0) _ _ (c .before .before .before .before .before .before .before .before .before .before .before .before .before .before .before .before .before .before .before .before .before .before .before .before .pre .1 .0 .0) (c .before .before .before .before .before .before .before .before .before .before .before .before .before .before .before .before .before .before .before .before .before .before .before .before .pre .1 .1) (c .before .before .before .before .before .before .before .before .before .before .before .before .before .before .before .before .before .before .before .before .look-up .ensures) (c .before .before .before .before .before .before .before .before .before .before .before .before .before .before .before .before .before .before .i .given .1)
+write-inline-returns-4 t c = inline-done _ _ _ _ (c .before .before .before .before .before .before .before .before .before .before .before .before .before .before .before .before .before .before .before .before .before .before .before .before .args .sheet .now) (c .before .before .before .before .before .before .before .before .before .before .before .before .before .before .before .before .before .before .before .before .before .before .before .before .args .schema .now) (c .before .before .before .before .before .before .before .before .before .before .before .before .before .before .before .before .before .before .before .before .before .before .before .before .args .left) (c .before .before .before .before .before .before .before .before .before .before .before .before .before .before .before .before .before .before .before .before .before .before .before .before .args .d) (c .before .before .before .before .before .before .before .before .before .before .before .before .before .before .before .before .before .before .before .before .before .before .before .before .args .m) _ _ (c .before .before .before .before .before .before .before .before .before .before .before .before .before .before .before .before .before .before .i .given .0 .0) _ _ _ (c .before .before .before .before .before .before .before .t .given .0 .0) _ _ (c .before .before .before .before .before .before .before .before .before .before .before .before .before .before .before .before .before .before .before .before .before .before .before .before .pre .1 .0 .0) (c .before .before .before .before .before .before .before .before .before .before .before .before .before .before .before .before .before .before .before .before .before .before .before .before .pre .1 .1) (c .before .before .before .before .before .before .before .before .before .before .before .before .before .before .before .before .before .before .before .before .look-up .ensures .1) (c .before .before .before .before .before .before .before .before .before .before .before .before .before .before .before .before .before .before .i .given .1)
     (c .before .before .before .before .before .before .before .before .before .before .before .before .before .before .before .fits2 .ensures) (not-false _ (c .before .before .before .before .before .before .before .before .before .before .before .before .before .before .if1 .left)) (c .before .before .before .before .before .before .before .before .before .before .before .before .source-of .ensures (c .before .before .before .before .before .before .before .before .before .before .before .before .before .before .before .before .before .before .before .before .before .before .before .before .args .sheet .now)) (c .before .before .before .before .before .before .before .before .before .before .before .write-struct .ensures) (c .before .before .before .before .before .before .before .t .given .1) (c .before .before .shift .ensures)
 
 write-inline-sub-to : (t : ℕ) → write-inline-lts.Need-sub-to (write-inline-calls t) (write-inline-at t) write-inline.Post
