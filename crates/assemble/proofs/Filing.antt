@@ -33,7 +33,7 @@ use Rattle.area.proofs.Over.{over-mid, over-part, over-seq, length-over}
 use Rattle.area.proofs.Spots.{length-rowsOf}
 use Rattle.assemble.specs.Map.{Whole, placesOf}
 use Rattle.assemble.specs.Used.{recordsFor, sizeOf, Counts}
-use Rattle.assemble.specs.Packed.{usedRecords, AllStored, Holds, tableAt, InUse}
+use Rattle.assemble.specs.Packed.{usedRecords, AllStored, Holds, tableAt}
 use Rattle.assemble.proofs.Maps.{over-none, count-places}
 use Rattle.assemble.proofs.Heads.{stands-behind}
 use Rattle.assemble.proofs.Listing.{count-records}
@@ -197,9 +197,6 @@ module _ (F : Bytes) (R : Round) (p : Progress) (w : Bytes) (S : Schema) (s : St
 
       pub rest-small : length (pschBytes (usedRecords F R p w')) < 256 ^ 4
       rest-small = omega (arith, ap (λ (x : Records). length (pschBytes x)) made, file-size pointer, small)
-
-      pub used-after : InUse S R (length w) p w'
-      used-after = record { state = s; stack = σ; before = w; table = words (placesOf 16 (c .blocks)); rep = H .rep; few = few-places; is = ew }
 
       pub file-put : (o2 : Bytes) → room ≡ length o → length o1 ≡ length o → o2 ≡ putMid end (length o1 - end) o1 (over (take (length o1 - end) (drop end o1)) 0 (pschBytes (usedRecords F R p w')))
           → o2 ≡ over o 0 (fileOf (winning S) pointer c)

@@ -1,7 +1,7 @@
 -- The segments of a work area cleared one by one: then all of it is zero. Assumes nothing.
 use Prim.Native.Nat.{ℕ, _+_, _-_, _*_, _≤_}
 use native.Mathlib.Omega.{arith}
-use mathlib.Core.Path.{_≡_, refl, sym, _∙_, ap, ap₂}
+use mathlib.Core.Path.{_≡_, refl, _∙_, ap, ap₂}
 use mathlib.Core.List.{List, [], _∷_, _++_}
 use lib.ListN.{length, length-append, replicate-append-replicate}
 use Rattle.numbers.specs.Words.{Bytes, words, over, zeros, padded}
@@ -17,8 +17,9 @@ use Rattle.area.specs.Posts.{Safe}
 use Rattle.area.proofs.Flat as flat
 use Rattle.area.proofs.Remarks.{length-rows}
 use Rattle.area.proofs.Spots.{length-rowsOf}
-use Rattle.assemble.specs.Packed.{tableAt, InUse, rowsWiped, namesWiped}
-use Rattle.assemble.proofs.Maps.{over-none}
+use Rattle.assemble.specs.Map.{placesOf}
+use Rattle.assemble.specs.Packed.{tableAt, InUse, rowsWiped, namesWiped, allWiped}
+use Rattle.assemble.proofs.Maps.{count-places}
 
 -- the first k bytes of a segment cleared, where it holds no more
 cleared : (xs ys : List Segment) (c : ℕ) (a : Bytes) (k at : ℕ) → length a ≤ k → k ≤ c → rooms xs ≡ at
@@ -77,10 +78,14 @@ module _ (R : Round) (n : ℕ) where
         let r : rooms (seven [] [] [] [] [] [] []) ≡ n = omega (arith, h .room) in
         a7 ∙ bare-zeros (32768 ∷ 16384 ∷ 16384 ∷ E ∷ E ∷ R .cap ∷ (n - stackAt R) ∷ []) ∙ ap zeros r
 
+    -- the four parts cleared
+    pub parts-wiped : (w w1 w2 w3 w4 : Bytes) → w1 ≡ rowsWiped w (p .blocks) (p .rows) → w2 ≡ namesWiped w1 (R .entries) (p .structs) (p .enums)
+        → w3 ≡ over w2 (itemsAt R) (zeros (p .end - itemsAt R)) → w4 ≡ over w3 (stackAt R) (zeros (p .top - stackAt R)) → w4 ≡ allWiped R p w
+    parts-wiped w w1 w2 w3 w4 e1 e2 e3 e4 = rw (e4, e3, e2, e1)
+
     -- a work area in use, cleared
-    pub wiped : (S : Schema) (w w1 w2 w3 w4 : Bytes) → InUse S R n p w → w1 ≡ rowsWiped w (p .blocks) (p .rows) → w2 ≡ namesWiped w1 (R .entries) (p .structs) (p .enums)
-        → w3 ≡ over w2 (itemsAt R) (zeros (p .end - itemsAt R)) → w4 ≡ over w3 (stackAt R) (zeros (p .top - stackAt R)) → w4 ≡ zeros n
-    wiped S w w1 w2 w3 w4 u e1 e2 e3 e4 =
+    pub wiped : (S : Schema) (w w' : Bytes) → InUse S R n p w → w' ≡ allWiped R p w → w' ≡ zeros n
+    wiped S w w' u q =
         let s = u .state in
         let c = s .core in
         let r = u .rep in
@@ -92,8 +97,19 @@ module _ (R : Round) (n : ℕ) where
         16384 [] (u .table) tableAt (omega (arith, u .few, h .blocks)) (omega arith) in
         seven-wiped (rowsOf (c .blocks)) (rowsBytes rows) (u .table) (words (c .structs)) (words (c .enums)) (encode (c .items)) (u .stack)
         (omega (arith, length-rowsOf (c .blocks), r .blocks)) (omega (arith, length-rows rows, r .rows)) (u .few) (omega (arith, length-words (c .structs), r .structs))
-        (omega (arith, length-words (c .enums), r .enums)) (omega (arith, r .end)) (omega (arith, r .top)) w w1 w2 w3 w4 e e1 e2 e3 e4
+        (omega (arith, length-words (c .enums), r .enums)) (omega (arith, r .end)) (omega (arith, r .top)) w _ _ _ w' e refl refl refl q
 
--- an area that holds a state, as it is
-pub held-in-use : (S : Schema) (R : Round) (n : ℕ) (p : Progress) (w : Bytes) (s : State) (σ : Bytes) → Rep S R n s σ p w → InUse S R n p w
-held-in-use S R n p w s σ r = record { state = s; stack = σ; before = w; table = []; rep = r; few = omega arith; is = sym (over-none w tableAt) }
+-- an area that holds a state, and its blocks' places in the table
+pub tabled-in-use : {S : Schema} {R : Round} {n : ℕ} {p : Progress} {w : Bytes} {s : State} {σ : Bytes} → Rep S R n s σ p w → (w' : Bytes)
+    → w' ≡ over w tableAt (words (placesOf 16 (s .core .blocks))) → InUse S R n p w'
+tabled-in-use {w = w} {s = s} {σ = σ} r w' e =
+    let bs = s .core .blocks in
+    record {
+      state = s;
+      stack = σ;
+      before = w;
+      table = words (placesOf 16 bs);
+      rep = r;
+      few = omega (arith, length-words (placesOf 16 bs), count-places 16 bs, r .blocks);
+      is = e;
+    }

@@ -1,5 +1,5 @@
 -- The whole file from a work area, and the work area after it.
-use Prim.Native.Nat.{ℕ, _+_, _*_, _≤_}
+use Prim.Native.Nat.{ℕ, _+_, _-_, _*_, _≤_}
 use mathlib.Core.Path.{_≡_}
 use mathlib.Core.Bool.{true, false}
 use mathlib.Core.List.{_++_}
@@ -15,7 +15,7 @@ use Rattle.layout.specs.Assemble.{Records, fileOf}
 use Rattle.area.specs.declared.Round.{Round}
 use Rattle.area.specs.declared.Progress.{Progress}
 use Rattle.area.specs.Rows.{namesIn}
-use Rattle.area.specs.Area.{Rep}
+use Rattle.area.specs.Area.{itemsAt, stackAt, Rep}
 use Rattle.assemble.specs.Used.{recordsFor, Stored}
 
 -- "used structures, used enums", by the names in the work area
@@ -67,3 +67,9 @@ rowsWiped w blocks rows = over (over (over w 0 (zeros (8 * blocks))) 32768 (zero
 -- the used names set to 0
 abbrev pub namesWiped : Bytes → ℕ → ℕ → ℕ → Bytes
 namesWiped w entries structs enums = over (over w 65536 (zeros (4 * structs))) (65536 + 4 * entries) (zeros (4 * enums))
+
+-- all that is in use set to 0: rows, names, items, stack
+abbrev pub allWiped : Round → Progress → Bytes → Bytes
+allWiped R p w =
+    over (over (namesWiped (rowsWiped w (p .blocks) (p .rows)) (R .entries) (p .structs) (p .enums)) (itemsAt R) (zeros (p .end - itemsAt R)))
+    (stackAt R) (zeros (p .top - stackAt R))

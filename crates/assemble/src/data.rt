@@ -8,8 +8,8 @@ ghost use Prim.Native.Nat.{_+_};
 ghost use lib.ListN.{length, take, drop};
 ghost use Rattle.numbers.specs.Words.{readAt, over};
 ghost use Rattle.layout.specs.State.{Core};
-ghost use Rattle.layout.specs.Assemble.{dataOf, psinOf};
-ghost use Rattle.assemble.specs.Scatter.{Ready, Held, Turn, placed};
+ghost use Rattle.layout.specs.Assemble.{dataOf};
+ghost use Rattle.assemble.specs.Scatter.{Ready, Held, Turn, placed, psinSized};
 
 // The item whose head stands at `pos`, to its block's place plus its start; the next one's head.
 fn place_item(work: &[u8], pos: usize, table: usize, out: &mut [u8]) -> usize
@@ -36,11 +36,11 @@ fn scatter(work: &[u8], from: usize, end: usize, table: usize, out: &mut [u8])
     }
 }
 
-// PSIN: its head, and the data from the items.
+// PSIN, `size` bytes long: its head, and the data from the items.
 pub fn write_data(work: &[u8], from: usize, end: usize, table: usize, size: u32, out: &mut [u8])
     requires { ⌜ Held (now work) from end table (length (now out)) ⌝ }
-    ensures { λ _. ⌜ ((c : Core) → Ready (now (work .entry)) from end table (length (now (out .entry))) c → size ≡ 16 + length (dataOf c)
-        → now (out .exit) ≡ over (now (out .entry)) 0 (psinOf (dataOf c))) ⌝ }
+    ensures { λ _. ⌜ ((c : Core) → Ready (now (work .entry)) from end table (length (now (out .entry))) c
+        → now (out .exit) ≡ over (now (out .entry)) 0 (psinSized size (dataOf c))) ⌝ }
 {
     head(out, 0, b"PSIN", size);
     write_two(out, 8, 0, 0);

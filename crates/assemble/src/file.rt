@@ -10,7 +10,7 @@ ghost use mathlib.Core.Path.{_≡_};
 ghost use mathlib.Core.List.{List};
 ghost use Prim.Native.Nat.{ℕ, _+_, _*_, _≤_};
 ghost use lib.ListN.{length};
-ghost use Rattle.numbers.specs.Words.{Bytes, over, zeros, Stands};
+ghost use Rattle.numbers.specs.Words.{Bytes, words, over, zeros, Stands};
 ghost use Rattle.schema.specs.Defs.{Schema, winning};
 ghost use Rattle.layout.specs.State.{Block, State};
 ghost use Rattle.layout.specs.Demand3.{Every};
@@ -18,8 +18,9 @@ ghost use Rattle.layout.specs.Always.{total};
 ghost use Rattle.layout.specs.Assemble.{fileOf};
 ghost use Rattle.area.specs.Area.{rowsOf, Small};
 ghost use Rattle.area.specs.Posts.{Safe};
+ghost use Rattle.assemble.specs.Map.{placesOf};
 ghost use Rattle.assemble.specs.Used.{Counts};
-ghost use Rattle.assemble.specs.Packed.{Holds, Fitting, SomeFitting, InUse, rowsWiped, namesWiped};
+ghost use Rattle.assemble.specs.Packed.{Holds, Fitting, SomeFitting, tableAt, InUse, rowsWiped, namesWiped, allWiped};
 
 // The lengths of the `count` blocks together.
 fn data_length(work: &[u8], count: usize) -> usize
@@ -67,7 +68,8 @@ pub fn put_file(
     requires { ⌜ Safe round (length (now work)) p ⌝ }
     requires { ⌜ SomeFitting (now schema) round p (now work) pointer (length (now out)) ⌝ }
     ensures { λ _. ⌜ ((S : Schema) (s : State) (σ : Bytes) → Fitting (now (schema .entry)) round p (now (work .entry)) pointer (length (now (out .entry))) S s σ
-        → (now (out .exit) ≡ over (now (out .entry)) 0 (fileOf (winning S) pointer (s .core))) × InUse S round (length (now (work .entry))) p (now (work .exit))) ⌝ }
+        → (now (out .exit) ≡ over (now (out .entry)) 0 (fileOf (winning S) pointer (s .core)))
+        × (now (work .exit) ≡ over (now (work .entry)) tableAt (words (placesOf 16 (s .core .blocks))))) ⌝ }
 {
     let from = 65536 + 8 * round.entries;
     let root = pointer % 4096;
@@ -97,6 +99,7 @@ fn wipe_names(work: &mut [u8], entries: usize, structs: usize, enums: usize)
 // Clears what is in use of a work area: rows, names, items, stack; then all of it is zero.
 pub fn wipe(work: &mut [u8], round: Round, p: Progress)
     requires { ⌜ Safe round (length (now work)) p ⌝ }
+    ensures { λ _. ⌜ now (work .exit) ≡ allWiped round p (now (work .entry)) ⌝ }
     ensures { λ _. ⌜ ((S : Schema) → InUse S round (length (now (work .entry))) p (now (work .entry)) → now (work .exit) ≡ zeros (length (now (work .entry)))) ⌝ }
 {
     let items = 65536 + 8 * round.entries;

@@ -6,7 +6,7 @@ use Prim.Native.Nat.{ℕ, _+_, _≤_, zero-le}
 use native.Mathlib.Nat.{sub-zero}
 use native.Mathlib.Omega.{arith}
 use lib.ListN.{length, take, drop, replicate, drop-of-length-le}
-use Rattle.numbers.specs.Words.{Bytes, over, zeros}
+use Rattle.numbers.specs.Words.{Bytes, words, over, zeros}
 use Rattle.numbers.specs.Result.{Result, ok, refused}
 use Rattle.schema.specs.Defs.{Schema, winning}
 use Rattle.layout.specs.State.{Remark, State, thinned, thin, eventsOf}
@@ -21,7 +21,9 @@ use Rattle.pso_write.specs.declared.Job.{Job}
 use Rattle.pso_write.specs.declared.Stage.{Stage}
 use Rattle.pso_write.specs.declared.rounds.Opening.the-variants as O
 use Rattle.pso_write.specs.Answers.{answerOf, leaves}
-use Rattle.assemble.specs.Packed.{Fitting, SomeFitting, InUse}
+use Rattle.assemble.specs.Map.{placesOf}
+use Rattle.assemble.specs.Packed.{Fitting, SomeFitting, tableAt, InUse}
+use Rattle.assemble.proofs.Wiping.{tabled-in-use}
 use Rattle.pso_write.specs.Rounds.{Roomy, Rooted, runOf, Laid}
 use Rattle.pso_write.specs.Merge.{noJob, refusalOf, remarksIn, Closing, Inv, Takes, Opens, Begins, Ends}
 use Rattle.pso_write.proofs.Merges.{closes}
@@ -104,7 +106,7 @@ module _ (T F out w : Bytes) (room len count : ℕ) (j : Job) (h : Closing T F (
   -- the file
   pub end-file : j .good ≡ true → (out' w₁ w' : Bytes)
       → ((S : Schema) (s : State) (σ : Bytes) → Fitting F (j .round) (j .p) w (j .value) (length out) S s σ
-      → (out' ≡ over out 0 (fileOf (winning S) (j .value) (s .core))) × InUse S (j .round) (length w) (j .p) w₁)
+      → (out' ≡ over out 0 (fileOf (winning S) (j .value) (s .core))) × (w₁ ≡ over w tableAt (words (placesOf 16 (s .core .blocks)))))
       → length w₁ ≡ length w → ((S : Schema) → InUse S (j .round) (length w₁) (j .p) w₁ → w' ≡ zeros (length w₁))
       → Ends T F room (length w) out (File len count) out' w'
   unfolding buildPso afterwards packed
@@ -116,7 +118,7 @@ module _ (T F out w : Bytes) (room len count : ℕ) (j : Job) (h : Closing T F (
         ap (λ (n : ℕ). success n count) (l .long) ∙ ap (λ (k : ℕ). success (length (fileOf (winning (l .schema)) (j .value) (l .state .core))) k) c
             ∙ ap (λ x. afterwards (length w) out room x .answer) (sym b),
         p .0 ∙ over-front out (fileOf (winning (l .schema)) (j .value) (l .state .core)) ∙ ap (λ x. afterwards (length w) out room x .output) (sym b),
-        wipes (l .schema) (subst (λ (n : ℕ). InUse (l .schema) (j .round) n (j .p) w₁) (sym l₁) (p .1)) ∙ ap zeros l₁,
+        wipes (l .schema) (subst (λ (n : ℕ). InUse (l .schema) (j .round) n (j .p) w₁) (sym l₁) (tabled-in-use (l .rep) w₁ (p .1))) ∙ ap zeros l₁,
       )
 
 -- the list at the end

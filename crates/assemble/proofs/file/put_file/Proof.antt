@@ -6,7 +6,7 @@ use borrow.Rule.Slice.PartMut.{putMid}
 use lib.ListN.{length, take, drop, length-drop}
 use lib.Seq.{length-take-le}
 use Rattle.area.specs.Posts.{Safe}
-use Rattle.assemble.proofs.Filing.{whole, stored, rest-fits, rest-small, used-after, file-put}
+use Rattle.assemble.proofs.Filing.{whole, stored, rest-fits, rest-small, file-put}
 use borrow.Author.Needs.{needs}
 use Rattle.assemble.proofs.file.put_file.Statement.{statement}
 use Rattle.assemble.proofs.file.put_file.Tie as tie
@@ -75,5 +75,5 @@ put-file-spec =
     let lo : length o1 ≡ length (a .out .now) = m .kept .1 .1 .1 .1 .1 .1 .1 .0 in (
       file-put (a .schema .now) (a .round) (a .p) (a .work .now) S s σ h (f .holds) (a .pointer) (length (a .out .now)) (f .fits) (f .small) (a .out .now) o1 w1 (m .result) (e .0) (e .1) (e .2)
           _ refl lo (ap (λ x. putMid (m .result) (length o1 - m .result) o1 x) (c .before .before .put-schema .ensures)),
-      used-after (a .schema .now) (a .round) (a .p) (a .work .now) S s σ h (f .holds) (a .pointer) (length (a .out .now)) (f .fits) (f .small) (a .out .now) o1 w1 (m .result) (e .0) (e .1) (e .2),
+      e .1,
     )))

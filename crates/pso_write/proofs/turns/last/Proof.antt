@@ -23,7 +23,7 @@ last-spec =
     let a = c .before .before .before .before .before .before .before .before .before .before .before .before .before .before .before .before .before .args in
     let f = c .before .before .before .before .before .before .before .before .put-file in
     end-file (a .sheet .now) (a .schema .now) (a .out .now) (a .work .now) (a .room) (a .st .length) (a .st .count) (a .st .job) (c .before .before .before .before .before .before .before .before .before .before .before .before .before .before .before .before .before .pre) (c .before .before .before .before .before .before .before .before .before .before .before .if1 .taken)
-    (f .last .1 .1 .1 .1 .1 .0) (f .last .1 .0) (c .before .before .wipe .last .0) (f .ensures) (c .before .before .before .before .before .before .before .work .given) (c .before .before .wipe .ensures))
+    (f .last .1 .1 .1 .1 .1 .0) (f .last .1 .0) (c .before .before .wipe .last .0) (f .ensures) (c .before .before .before .before .before .before .before .work .given) (c .before .before .wipe .ensures .1))
     (λ c.
     let a = c .before .before .before .before .before .before .before .before .args in
     end-unused (a .sheet .now) (a .schema .now) (a .out .now) (a .work .now) (a .room) (a .st .length) (a .st .count) (a .st .job) (c .before .before .before .before .before .before .before .before .pre) (c .before .before .if1 .left) (c .if2 .taken))
@@ -32,4 +32,4 @@ last-spec =
     (λ c.
     let a = c .before .before .before .before .before .before .before .before .before .before .before .before .args in
     end-wiped (a .sheet .now) (a .schema .now) (a .out .now) (a .work .now) (a .room) (a .st .length) (a .st .count) (a .st .job) (c .before .before .before .before .before .before .before .before .before .before .before .before .pre) (c .before .before .before .before .before .before .if1 .left) (c .before .before .before .before .if2 .left)
-    (c .before .before .wipe2 .last .0) (c .before .before .wipe2 .ensures)))
+    (c .before .before .wipe2 .last .0) (c .before .before .wipe2 .ensures .1)))

@@ -22,7 +22,7 @@ passed-spec =
     (λ c κs. search needs)
     (λ c κs.
     let a = c .before .before .before .before .before .before .before .before .before .before .before .before .before .before .before .args in
-    round-again (a .sheet .now) (a .schema .now) (a .size) (a .room) (a .st) (a .work .now) (c .before .before .before .before .before .before .before .before .before .before .before .before .before .before .before .pre) (c .before .before .before .before .wipe .last .0) (c .before .before .before .work .given) (c .before .before .before .before .wipe .ensures))
+    round-again (a .sheet .now) (a .schema .now) (a .size) (a .room) (a .st) (a .work .now) (c .before .before .before .before .before .before .before .before .before .before .before .before .before .before .before .pre) (c .before .before .before .before .wipe .last .0) (c .before .before .before .work .given) (c .before .before .before .before .wipe .ensures .1))
     (λ c. search needs)
     (λ c.
     let a = c .before .before .before .before .before .before .before .before .before .before .before .before .before .before .before .before .before .before .args in
