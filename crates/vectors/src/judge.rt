@@ -4,17 +4,19 @@ use numbers::words::part_from;
 use numbers::words::part_to;
 use numbers::words::read_u32;
 use numbers::words::same;
-ghost use Prim.Native.Nat.{_≤_, _<_};
+ghost use mathlib.Core.Path.{_≡_};
+ghost use Prim.Native.Nat.{_<_};
+ghost use lib.ListN.{length, replicate};
 
 // The byte that fills every area before a case.
-fn noise() -> u8 {
-    165
-}
+const NOISE: u8 = 165;
 
-pub fn fill(s: &mut [u8]) {
+pub fn fill(s: &mut [u8])
+    ensures { λ _. ⌜ now (s .exit) ≡ replicate (length (now (s .entry))) 165 ⌝ }
+{
     let mut i = 0;
     while i < s.len() {
-        s[i] = noise();
+        s[i] = NOISE;
         i += 1;
     }
 }
@@ -100,7 +102,7 @@ pub fn agrees(
     let size = read_u32(row, 32) as usize;
     let c = (code == read_u32(row, 28)) & (len == size) & (count == read_u32(row, 36) as usize);
     let f = same(part_to(out, len), part_to(part_from(row, at), size));
-    let a = all_are(out, len, noise()) & all_are(work, 0, 0);
+    let a = all_are(out, len, NOISE) & all_are(work, 0, 0);
     c & f & a & records(part_from(row, at + size), count, n, list)
 }
 

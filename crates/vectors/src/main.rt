@@ -20,7 +20,7 @@ ghost use lib.ListN.{length, take};
 ghost use Rattle.layout.specs.Build.{buildPso};
 ghost use Rattle.pso_write.specs.Answers.{leaves};
 
-pub mod judge;
+mod judge;
 
 // The answer, and all records behind it.
 pub struct Kept {
