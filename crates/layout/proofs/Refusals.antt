@@ -10,9 +10,9 @@ use lib.ListN.{length}
 use Rattle.numbers.specs.Words.{Bytes, readAt}
 use Rattle.numbers.specs.Result.{Result, ok, refused, andThen, mapResult, needed}
 use Rattle.value.specs.Rows.{row, Fields, fieldsOf}
-use Rattle.value.specs.Answer.{checked, numberOf}
-use Rattle.value.specs.declared.check.Sheet.{Sheet}
-use Rattle.value.specs.declared.check.Sheet.the-variants as X
+use Rattle.sheet.specs.Answer.{checked, numberOf}
+use Rattle.sheet.specs.declared.Sheet.{Sheet}
+use Rattle.sheet.specs.declared.Sheet.the-variants as X
 use Rattle.schema.specs.Sections.{Sections, section, end, broken, PSIN, PMAP, PSCH, sections}
 use Rattle.schema.specs.Defs.{Lookup, StructDef, winning, indexEntries}
 use Rattle.schema.specs.Psch.{structure, enumeration, structHere, enumHere, structAt, enumAt, defAt, defsFrom, pschOf, sectionDefs, defsOf, schemaOf, outside}

@@ -8,7 +8,7 @@ use lib.ListN.{length, drop, replicate}
 use Rattle.numbers.specs.Words.{Bytes, zeros}
 use Rattle.numbers.specs.Result.{Result, ok, refused, andThen, needed}
 use Rattle.value.specs.Rows.{row, fieldsOf}
-use Rattle.value.specs.Answer.{checked, numberOf}
+use Rattle.sheet.specs.Answer.{checked, numberOf}
 use Rattle.schema.specs.Defs.{Lookup, StructDef, winning, indexEntries}
 use Rattle.schema.specs.Psch.{schemaOf}
 use Rattle.layout.specs.State.{Remark, State, emptyState, Env, Out, done, stop, thin}

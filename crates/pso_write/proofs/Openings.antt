@@ -9,8 +9,8 @@ use borrow.Author.Tests.{lt-ltb, le-ltb, ltb-false}
 use Rattle.numbers.specs.Words.{Bytes}
 use Rattle.numbers.specs.Result.{Result, ok, refused, andThen, mapResult, needed}
 use Rattle.value.specs.Rows.{row}
-use Rattle.value.specs.Answer.{checked, numberOf}
-use Rattle.value.specs.declared.check.Sheet.{Sheet}
+use Rattle.sheet.specs.Answer.{checked, numberOf}
+use Rattle.sheet.specs.declared.Sheet.{Sheet}
 use Rattle.schema.specs.declared.check.Checked.{Checked}
 use Rattle.schema.specs.declared.check.Checked.the-variants as C
 use Rattle.schema.specs.declared.lookup.Found.{Found}

@@ -1,7 +1,7 @@
 -- `pso_write::rounds::opened` meets its contract. Assumes nothing.
 use mathlib.Core.Path.{ap}
 use borrow.Author.Needs.{needs}
-use Rattle.value.specs.Answer.{numberOf}
+use Rattle.sheet.specs.Answer.{numberOf}
 use Rattle.pso_write.proofs.Openings.{sheet-bad, sheet-good}
 use Rattle.pso_write.proofs.rounds.opened.Statement.{statement}
 use Rattle.pso_write.proofs.rounds.opened.Tie as tie
