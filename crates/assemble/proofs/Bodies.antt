@@ -12,10 +12,10 @@ use Rattle.numbers.proofs.Bytes.{octets-take, octets-drop, bytes-number, length
 use Rattle.schema.specs.Psch.{memberAt, membersAt, entriesAt, structHere, enumHere}
 use Rattle.numbers.specs.Result.{mapOption, orValue}
 use Rattle.schema.specs.Index.{lastPlace}
-use Rattle.schema.specs.Answers.{foundIs, headHere}
-use Rattle.schema.specs.declared.members.Head.{Head}
-use Rattle.schema.specs.declared.lookup.Found.{Found}
-use Rattle.schema.specs.declared.lookup.Found.the-variants.{At, Nothing}
+use Rattle.definitions.specs.Answers.{foundIs, headHere}
+use Rattle.definitions.specs.declared.members.Head.{Head}
+use Rattle.definitions.specs.declared.lookup.Found.{Found}
+use Rattle.definitions.specs.declared.lookup.Found.the-variants.{At, Nothing}
 use Rattle.schema.proofs.Places.{struct-count, enum-count}
 use Rattle.layout.specs.Assemble.{joined, memberBytes, structBytes, enumBytes}
 use Rattle.layout.proofs.ReadDefs.{struct-length, enum-length, entryBytes}

@@ -12,10 +12,10 @@ use Rattle.numbers.specs.Result.{ok, isSome, mapOption, orValue}
 use Rattle.schema.specs.Defs.{Schema, winning}
 use Rattle.schema.specs.Psch.{schemaOf, structHere, enumHere}
 use Rattle.schema.specs.Index.{lastPlace}
-use Rattle.schema.specs.Answers.{foundIs}
-use Rattle.schema.specs.declared.lookup.Found.{Found}
-use Rattle.schema.specs.declared.lookup.Found.the-variants.{At, Nothing}
-use Rattle.schema.proofs.Finds.{winning-struct, winning-enum}
+use Rattle.definitions.specs.Answers.{foundIs}
+use Rattle.definitions.specs.declared.lookup.Found.{Found}
+use Rattle.definitions.specs.declared.lookup.Found.the-variants.{At, Nothing}
+use Rattle.definitions.proofs.Finds.{winning-struct, winning-enum}
 use Rattle.layout.specs.State.{Core, contains}
 use Rattle.layout.specs.Demand3.{Every}
 use Rattle.layout.specs.Assemble.{structBytes, enumBytes, Records, recordsOf, found, consOption, usedOf}

@@ -1,7 +1,7 @@
 // The whole file: its length, and its bytes; and the work area cleared.
 use crate::blocks::assemble;
-use crate::definitions::definitions_length;
-use crate::definitions::put_schema;
+use crate::psch::definitions_length;
+use crate::psch::put_schema;
 use area::Progress;
 use area::Round;
 use numbers::words::clear;

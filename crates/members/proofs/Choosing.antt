@@ -19,11 +19,11 @@ use Rattle.schema.specs.Defs
 use Rattle.schema.specs.Defs.{Schema, StructDef, winning}
 use Rattle.schema.specs.Psch.{schemaOf, entriesAt, enumHere}
 use Rattle.schema.specs.Index.{lastPlace}
-use Rattle.schema.specs.Answers.{foundIs, enumFound}
-use Rattle.schema.specs.declared.lookup.Found.{Found}
-use Rattle.schema.specs.declared.lookup.Found.the-variants.{At, Nothing}
-use Rattle.schema.specs.declared.members.Member as coded
-use Rattle.schema.proofs.Inside.{last-inside}
+use Rattle.definitions.specs.Answers.{foundIs, enumFound}
+use Rattle.definitions.specs.declared.lookup.Found.{Found}
+use Rattle.definitions.specs.declared.lookup.Found.the-variants.{At, Nothing}
+use Rattle.definitions.specs.declared.members.Member as coded
+use Rattle.definitions.proofs.Inside.{last-inside}
 use Rattle.layout.specs.State.{State, M, after, bind, ret, ifM, optM, fitM, useEnum}
 use Rattle.layout.specs.Kinds as Kinds
 use Rattle.layout.specs.Members.{leaves, need, wrong, slotSize, enumSize, entriesOf, textSlot, scalarMember, fixedMember, pointerMember, hashMember, textMember, useEnumOf, namedMember, enumMember, flagsMember, referenceAt, high16, low12}

@@ -18,10 +18,10 @@ use Rattle.coerce.specs.Names.{hashOf, enumValue}
 use Rattle.schema.specs.Defs
 use Rattle.schema.specs.Defs.{Schema, StructDef, winning}
 use Rattle.schema.specs.Psch.{schemaOf, entriesAt, enumHere}
-use Rattle.schema.specs.Answers.{enumFound}
-use Rattle.schema.specs.declared.lookup.Found.{Found}
-use Rattle.schema.specs.declared.lookup.Found.the-variants.{At, Nothing}
-use Rattle.schema.specs.declared.members.Member as coded
+use Rattle.definitions.specs.Answers.{enumFound}
+use Rattle.definitions.specs.declared.lookup.Found.{Found}
+use Rattle.definitions.specs.declared.lookup.Found.the-variants.{At, Nothing}
+use Rattle.definitions.specs.declared.members.Member as coded
 use Rattle.layout.specs.State.{State, Env, M, done, after, bind, ret, ifM, fitM, remark, withRemark, useEnum, logEnum, onCore, settle, useEnumC}
 use Rattle.layout.specs.Kinds
 use Rattle.layout.specs.Members.{says, high16, slotSize, entriesOf, useEnumOf}

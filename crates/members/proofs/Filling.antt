@@ -14,7 +14,7 @@ use Rattle.value.specs.Rows.{Value, Row, valueRow}
 use Rattle.coerce.specs.Numbers.{Fit, fits, unfit, floatText}
 use Rattle.schema.specs.Defs
 use Rattle.schema.specs.Defs.{Schema, StructDef, winning}
-use Rattle.schema.specs.declared.members.Member as coded
+use Rattle.definitions.specs.declared.members.Member as coded
 use Rattle.layout.specs.State.{Remark, State, M, done, after, bind, ret, fail, ifM, optM, fitM, remark, settle, onCore, logEnum, useEnumC, useEnum, withRemark}
 use Rattle.layout.specs.Kinds as Kinds
 use Rattle.layout.specs.Members.{says, leaves, need, wrong}

@@ -10,11 +10,11 @@ use Rattle.schema.specs.Defs
 use Rattle.schema.specs.Defs.{Schema, winning}
 use Rattle.schema.specs.Psch.{schemaOf, structHere, memberAt, membersAt}
 use Rattle.schema.specs.Index.{lastPlace}
-use Rattle.schema.specs.Answers.{foundIs, structFound, headHere, memberIs}
-use Rattle.schema.specs.declared.lookup.Found.{Found}
-use Rattle.schema.specs.declared.lookup.Found.the-variants as found
-use Rattle.schema.specs.declared.members.Head.{Head}
-use Rattle.schema.specs.declared.members.Member as coded
+use Rattle.definitions.specs.Answers.{foundIs, structFound, headHere, memberIs}
+use Rattle.definitions.specs.declared.lookup.Found.{Found}
+use Rattle.definitions.specs.declared.lookup.Found.the-variants as found
+use Rattle.definitions.specs.declared.members.Head.{Head}
+use Rattle.definitions.specs.declared.members.Member as coded
 use Rattle.layout.specs.Members.{referenceAt}
 use Rattle.area.specs.declared.Round.{Round}
 use Rattle.area.specs.declared.Progress.{Progress}

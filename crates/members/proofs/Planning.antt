@@ -14,10 +14,10 @@ use Rattle.value.specs.Rows.{Value}
 use Rattle.schema.specs.Defs
 use Rattle.schema.specs.Defs.{Schema, StructDef, winning}
 use Rattle.schema.specs.Psch.{schemaOf, entriesAt, enumHere}
-use Rattle.schema.specs.Answers.{enumFound}
-use Rattle.schema.specs.declared.lookup.Found.{Found}
-use Rattle.schema.specs.declared.lookup.Found.the-variants.{At, Nothing}
-use Rattle.schema.specs.declared.members.Member as coded
+use Rattle.definitions.specs.Answers.{enumFound}
+use Rattle.definitions.specs.declared.lookup.Found.{Found}
+use Rattle.definitions.specs.declared.lookup.Found.the-variants.{At, Nothing}
+use Rattle.definitions.specs.declared.members.Member as coded
 use Rattle.layout.specs.State.{State, M, ifM}
 use Rattle.layout.specs.Kinds as Kinds
 use Rattle.layout.specs.Members.{leaves, enumSize, entriesOf, fixedMember, pointerMember, hashMember, textMember, enumMember, flagsMember, referenceAt, high16, low12}

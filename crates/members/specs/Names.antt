@@ -6,8 +6,8 @@ use Rattle.numbers.specs.Words.{Bytes, readAt}
 use Rattle.schema.specs.Defs
 use Rattle.schema.specs.Psch.{membersAt}
 use Rattle.schema.specs.Index.{lastPlace}
-use Rattle.schema.specs.Answers.{headHere}
-use Rattle.schema.specs.declared.members.Member as coded
+use Rattle.definitions.specs.Answers.{headHere}
+use Rattle.definitions.specs.declared.members.Member as coded
 use Rattle.layout.specs.Kinds as layout
 use Rattle.members.specs.declared.Def.{Def}
 use Rattle.members.specs.declared.Looked.{Looked}

@@ -8,7 +8,7 @@ use Rattle.value.specs.Rows.{Value}
 use Rattle.schema.specs.Defs
 use Rattle.schema.specs.Defs.{Schema, StructDef, winning}
 use Rattle.schema.specs.Psch.{schemaOf}
-use Rattle.schema.specs.declared.members.Member as coded
+use Rattle.definitions.specs.declared.members.Member as coded
 use Rattle.layout.specs.Kinds.{Scalar, Kind, sizeOf}
 use Rattle.layout.specs.State.{State, Env, M, ret}
 use Rattle.layout.specs.Members.{high16, leaves, pointerMember}

@@ -13,7 +13,7 @@ use Rattle.coerce.specs.Numbers.{Fit}
 use Rattle.coerce.specs.Names.{enumValue, flagsBits}
 use Rattle.schema.specs.Defs
 use Rattle.schema.specs.Defs.{Schema, StructDef, winning}
-use Rattle.schema.specs.declared.members.Member as coded
+use Rattle.definitions.specs.declared.members.Member as coded
 use Rattle.layout.specs.State.{Remark, State, Env, M, bind, ret, ifM, fitM, useEnum}
 use Rattle.layout.specs.Kinds as Kinds
 use Rattle.layout.specs.Members as members

@@ -2,12 +2,12 @@
 use area::Progress;
 use area::Round;
 use area::notes::note;
+use definitions::lookup::Found;
+use definitions::lookup::find_structure;
+use definitions::members::Member;
+use definitions::members::read_head;
+use definitions::members::read_member;
 use layout::Remark;
-use schema::lookup::Found;
-use schema::lookup::find_structure;
-use schema::members::Member;
-use schema::members::read_head;
-use schema::members::read_member;
 ghost use mathlib.Core.Path.{_≡_};
 ghost use Prim.Native.Nat.{_+_, _≤_, _<_};
 ghost use lib.ListN.{length};

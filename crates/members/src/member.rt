@@ -15,7 +15,7 @@ use area::Round;
 use area::used::use_enum;
 use coerce::whole::has_str;
 use coerce::whole::str_of;
-use schema::members::Member;
+use definitions::members::Member;
 use value::Found;
 use value::value_row;
 ghost use mathlib.Core.Path.{_≡_};

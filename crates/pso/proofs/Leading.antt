@@ -12,15 +12,15 @@ use Rattle.schema.specs.Sections.{Sections, section, end, broken, sections}
 use Rattle.schema.specs.Defs.{leading}
 use Rattle.schema.specs.Index.{leadsTo, kept, placesFrom, sectionPlaces, placesOf, firstOf, firstPlace}
 use Rattle.schema.specs.Steps.{rest}
-use Rattle.schema.specs.Answers.{foundIs}
-use Rattle.schema.specs.declared.lookup.Found.{Found}
-use Rattle.schema.specs.declared.lookup.Found.the-variants.{At, Nothing}
+use Rattle.definitions.specs.Answers.{foundIs}
+use Rattle.definitions.specs.declared.lookup.Found.{Found}
+use Rattle.definitions.specs.declared.lookup.Found.the-variants.{At, Nothing}
 use Rattle.schema.proofs.Walk.{rest-all, Onward}
-use Rattle.schema.proofs.Finds.{first-map, first-append, leading-struct, leading-enum}
+use Rattle.definitions.proofs.Finds.{first-map, first-append, leading-struct, leading-enum}
 use Rattle.pso.proofs.Given.{parsed}
 use Rattle.pso.specs.Reader.{Pso, parsePso}
 use Rattle.pso.specs.Answers.{structureAt, enumerationAt, structDefined, enumDefined}
-use Rattle.pso.specs.declared.definitions.Definition.{Definition}
+use Rattle.pso.specs.declared.lookup.Definition.{Definition}
 
 -- ---- the index entries of a section, from the first on
 module _ (P : Bytes) (kind name n : ℕ) where

@@ -13,9 +13,10 @@ use Rattle.sheet.specs.Answer.{checked, numberOf}
 use Rattle.sheet.specs.declared.Sheet.{Sheet}
 use Rattle.schema.specs.declared.check.Checked.{Checked}
 use Rattle.schema.specs.declared.check.Checked.the-variants as C
-use Rattle.schema.specs.declared.lookup.Found.{Found}
-use Rattle.schema.specs.declared.lookup.Found.the-variants as Fd
-use Rattle.schema.specs.Answers.{checkedIs, foundIs, structFound}
+use Rattle.definitions.specs.declared.lookup.Found.{Found}
+use Rattle.definitions.specs.declared.lookup.Found.the-variants as Fd
+use Rattle.definitions.specs.Answers.{checkedIs}
+use Rattle.definitions.specs.Answers.{foundIs, structFound}
 use Rattle.schema.specs.Defs.{Schema, StructDef, winning, indexEntries}
 use Rattle.schema.specs.Psch.{schemaOf, structHere}
 use Rattle.schema.specs.Index.{lastPlace}

@@ -10,11 +10,11 @@ use Rattle.numbers.specs.Result.{ok, mapOption}
 use Rattle.value.specs.Rows.{row, fieldsOf}
 use Rattle.schema.specs.Defs.{Schema, StructDef, Lookup, winning, indexEntries}
 use Rattle.schema.specs.Psch.{schemaOf, structHere}
-use Rattle.schema.specs.Answers.{headHere}
+use Rattle.definitions.specs.Answers.{headHere}
 use Rattle.schema.specs.Index.{lastPlace}
-use Rattle.schema.specs.declared.lookup.Found.the-variants.{At}
-use Rattle.schema.proofs.Finds.{winning-struct}
-use Rattle.schema.specs.declared.members.Head.{Head}
+use Rattle.definitions.specs.declared.lookup.Found.the-variants.{At}
+use Rattle.definitions.proofs.Finds.{winning-struct}
+use Rattle.definitions.specs.declared.members.Head.{Head}
 use Rattle.layout.specs.State.{State, Out, done, stop, after, bind, emptyState, contains, addItem}
 use Rattle.layout.specs.Demand3.{count}
 use Rattle.layout.specs.Always.{Known}

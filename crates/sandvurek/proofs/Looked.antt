@@ -9,10 +9,10 @@ use Rattle.numbers.specs.Result.{ok, mapOption, nth}
 use Rattle.schema.specs.Defs.{Member, leading}
 use Rattle.schema.specs.Psch.{memberAt, membersAt, entriesAt, structHere, enumHere}
 use Rattle.schema.specs.Index.{firstPlace}
-use Rattle.schema.specs.Answers.{foundIs}
-use Rattle.schema.specs.declared.lookup.Found.{Found}
-use Rattle.schema.specs.declared.lookup.Found.the-variants.{At, Nothing}
-use Rattle.schema.proofs.Finds.{leading-struct, leading-enum}
+use Rattle.definitions.specs.Answers.{foundIs}
+use Rattle.definitions.specs.declared.lookup.Found.{Found}
+use Rattle.definitions.specs.declared.lookup.Found.the-variants.{At, Nothing}
+use Rattle.definitions.proofs.Finds.{leading-struct, leading-enum}
 use Rattle.pso.specs.Reader.{Pso, parsePso}
 use Rattle.pso.specs.Answers.{structureAt, enumerationAt}
 use Rattle.pso.proofs.Given.{parsed}

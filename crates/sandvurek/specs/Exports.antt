@@ -10,13 +10,13 @@ use Rattle.schema.specs.Sections.{sections}
 use Rattle.schema.specs.Defs as D
 use Rattle.schema.specs.Psch.{memberAt}
 use Rattle.schema.specs.Index.{firstPlace}
-use Rattle.schema.specs.Answers.{entryHere}
-use Rattle.schema.specs.declared.members.Entry as S
+use Rattle.definitions.specs.Answers.{entryHere}
+use Rattle.definitions.specs.declared.members.Entry as S
 use Rattle.pso.specs.Reader as R
 use Rattle.pso.specs.Blocks.{numbered, blocksOf}
 use Rattle.pso.specs.Answers.{dataAt, structureAt, enumerationAt}
-use Rattle.pso.specs.declared.definitions.Definition as P
-use Rattle.pso.specs.declared.definitions.Definition.the-variants.{Found, Nothing}
+use Rattle.pso.specs.declared.lookup.Definition as P
+use Rattle.pso.specs.declared.lookup.Definition.the-variants.{Found, Nothing}
 use Rattle.layout.specs.State.{Remark}
 use Rattle.layout.specs.Build.{Answer, success, refusal, After}
 use Rattle.sandvurek.specs.declared.Outcome.{Outcome}

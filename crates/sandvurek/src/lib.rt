@@ -1,16 +1,16 @@
 // The library's functions for C and Rust. A slice passes as pointer, then length; every call takes any bytes.
+use definitions::members::read_entry;
+use definitions::members::read_member;
 use layout::Remark;
 use pso::blocks::Row;
 use pso::blocks::block;
-use pso::definitions::Definition as Found;
-use pso::definitions::enumeration;
-use pso::definitions::structure;
+use pso::lookup::Definition as Found;
+use pso::lookup::enumeration;
+use pso::lookup::structure;
 use pso::parse::Parsed;
 use pso::parse::parse_pso;
 use pso_write::Built;
 use pso_write::build_pso;
-use schema::members::read_entry;
-use schema::members::read_member;
 ghost use mathlib.Core.Path.{_≡_};
 ghost use lib.ListN.{length};
 ghost use Rattle.numbers.specs.Result.{ok};

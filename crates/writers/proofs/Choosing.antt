@@ -13,8 +13,8 @@ use Rattle.coerce.specs.Text.{trimmed}
 use Rattle.schema.specs.Defs
 use Rattle.schema.specs.Defs.{Schema, winning}
 use Rattle.schema.specs.Psch.{schemaOf, memberAt}
-use Rattle.schema.specs.Answers.{memberIs}
-use Rattle.schema.specs.declared.members.Member as coded
+use Rattle.definitions.specs.Answers.{memberIs}
+use Rattle.definitions.specs.declared.members.Member as coded
 use Rattle.layout.specs.Runs.{ownType}
 use Rattle.layout.specs.State.{Env}
 use Rattle.layout.specs.Write.{arrayInfo, isStructValue, isArrayValue}

@@ -9,7 +9,7 @@ use lib.Dec.{leb}
 use lib.ListN.{length, take, drop, length-append}
 use Rattle.numbers.specs.Words.{Bytes, over, zeros}
 use Rattle.schema.specs.Defs.{Schema}
-use Rattle.schema.specs.declared.members.Member as coded
+use Rattle.definitions.specs.declared.members.Member as coded
 use Rattle.layout.specs.State.{State, M, done, ret, remark, withRemark}
 use Rattle.layout.specs.Members.{need, leaves, says}
 use Rattle.area.specs.declared.Round.{Round}

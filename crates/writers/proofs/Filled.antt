@@ -8,7 +8,7 @@ use lib.ListN.{length, length-append}
 use Rattle.numbers.specs.Words.{Bytes, over}
 use Rattle.numbers.specs.Result.{mapOption}
 use Rattle.schema.specs.Defs.{Schema}
-use Rattle.schema.specs.declared.members.Member as coded
+use Rattle.definitions.specs.declared.members.Member as coded
 use Rattle.layout.specs.State.{State, M, done, ret, bind, optM, addItem}
 use Rattle.layout.specs.Members.{need, putCounted}
 use Rattle.layout.specs.Runs.{Run}

@@ -14,7 +14,7 @@ use Rattle.value.specs.Answer.{valueIs}
 use Rattle.value.specs.declared.Found.{Found}
 use Rattle.schema.specs.Defs
 use Rattle.schema.specs.Defs.{Schema}
-use Rattle.schema.specs.declared.members.Member as coded
+use Rattle.definitions.specs.declared.members.Member as coded
 use Rattle.layout.specs.Kinds
 use Rattle.layout.specs.State.{State, M, ret, bind, ifM, addItem}
 use Rattle.layout.specs.Members.{need, leaves, wrong, putCounted, high16}

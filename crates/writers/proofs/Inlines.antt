@@ -14,7 +14,7 @@ use Rattle.value.specs.Rows.{Row, Fields, fieldsOf}
 use Rattle.schema.specs.Defs
 use Rattle.schema.specs.Defs.{Schema, StructDef, winning}
 use Rattle.schema.specs.Psch.{schemaOf}
-use Rattle.schema.specs.declared.members.Member as coded
+use Rattle.definitions.specs.declared.members.Member as coded
 use Rattle.layout.specs.State.{State, Env, M, Out, done, stop, after, bind, ret, optM}
 use Rattle.layout.specs.Members.{leaves, need}
 use Rattle.layout.specs.Runs.{Writer}

@@ -16,7 +16,7 @@ use Rattle.value.specs.declared.Found.{Found}
 use Rattle.schema.specs.Defs
 use Rattle.schema.specs.Defs.{Schema, StructDef, winning}
 use Rattle.schema.specs.Psch.{schemaOf}
-use Rattle.schema.specs.declared.members.Member as coded
+use Rattle.definitions.specs.declared.members.Member as coded
 use Rattle.layout.specs.State.{Env, M, ifM, optM}
 use Rattle.layout.specs.Kinds
 use Rattle.layout.specs.Kinds.{scalar, integer, vector, kindOf}

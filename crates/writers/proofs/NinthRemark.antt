@@ -5,7 +5,7 @@ use Prim.Native.Nat.{ℕ}
 use native.Mathlib.Omega.{arith}
 use borrow.Author.Tests.{ne-eqb}
 use Rattle.numbers.specs.Words.{Bytes}
-use Rattle.schema.specs.declared.members.Member as coded
+use Rattle.definitions.specs.declared.members.Member as coded
 use Rattle.value.specs.Rows.{Struct, Null}
 use Rattle.area.specs.declared.Round.{Round}
 use Rattle.area.specs.declared.Progress.{Progress}

@@ -8,8 +8,8 @@ use lib.ListN.{length}
 use Rattle.numbers.specs.Words.{Bytes}
 use Rattle.numbers.specs.Result.{nth}
 use Rattle.schema.specs.Psch.{memberAt}
-use Rattle.schema.specs.Answers.{memberIs}
-use Rattle.schema.specs.declared.members.Member as coded
+use Rattle.definitions.specs.Answers.{memberIs}
+use Rattle.definitions.specs.declared.members.Member as coded
 use Rattle.schema.proofs.Places.{members-length}
 use Rattle.members.specs.declared.Def.{Def}
 use Rattle.members.specs.Names.{defOf, memberOf}

@@ -16,7 +16,7 @@ use Rattle.value.specs.Answer.{valueIs}
 use Rattle.value.specs.declared.Found.{Found}
 use Rattle.schema.specs.Defs.{Schema, winning}
 use Rattle.schema.specs.Psch.{schemaOf}
-use Rattle.schema.specs.declared.members.Member as coded
+use Rattle.definitions.specs.declared.members.Member as coded
 use Rattle.layout.specs.State.{State, M, ret, bind, ifM, addItem}
 use Rattle.layout.specs.Members.{need, leaves, wrong, putPointer, putCounted, referenceAt, low16}
 use Rattle.layout.specs.Runs.{Run, run}

@@ -13,7 +13,7 @@ use Rattle.numbers.specs.Result.{orValue}
 use Rattle.numbers.proofs.Bytes.{length-bytes}
 use Rattle.value.specs.Rows.{row, rowsFrom, Struct}
 use Rattle.schema.specs.Defs.{Schema}
-use Rattle.schema.specs.declared.members.Member as coded
+use Rattle.definitions.specs.declared.members.Member as coded
 use Rattle.layout.specs.State.{State, M, Out, done, stop, after, bind, ret, ifM}
 use Rattle.layout.specs.Members.{putPointer}
 use Rattle.layout.specs.Runs.{run, pointed, pointerElement}

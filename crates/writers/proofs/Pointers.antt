@@ -13,7 +13,7 @@ use Rattle.numbers.proofs.Bytes.{length-bytes}
 use Rattle.value.specs.Rows.{Row, Fields, fieldsOf, Struct, row, valueRow}
 use Rattle.schema.specs.Defs
 use Rattle.schema.specs.Defs.{Schema, StructDef, winning}
-use Rattle.schema.specs.declared.members.Member as coded
+use Rattle.definitions.specs.declared.members.Member as coded
 use Rattle.value.specs.Answer.{valueIs}
 use Rattle.value.specs.declared.Found.{Found}
 use Rattle.value.specs.declared.Found.the-variants as found

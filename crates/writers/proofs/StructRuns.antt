@@ -11,7 +11,7 @@ use Rattle.numbers.specs.Words.{Bytes}
 use Rattle.value.specs.Rows.{row, rowsFrom, Fields, fieldsOf, Struct, Null}
 use Rattle.schema.specs.Defs
 use Rattle.schema.specs.Defs.{Schema}
-use Rattle.schema.specs.declared.members.Member as coded
+use Rattle.definitions.specs.declared.members.Member as coded
 use Rattle.layout.specs.State.{State, M, Out, done, stop, after, bind, ret, ifM, remark, withRemark}
 use Rattle.layout.specs.Members.{says}
 use Rattle.layout.specs.Runs.{structElement}

@@ -15,7 +15,7 @@ use Rattle.value.specs.Answer.{foundIs, valueIs}
 use Rattle.value.specs.declared.Found.{Found}
 use Rattle.schema.specs.Defs
 use Rattle.schema.specs.Defs.{Schema, winning}
-use Rattle.schema.specs.declared.members.Member as coded
+use Rattle.definitions.specs.declared.members.Member as coded
 use Rattle.layout.specs.State.{State, withCharge}
 use Rattle.layout.specs.Kinds.{kindOf}
 use Rattle.layout.specs.Write.{ARRAYINFO, member, members}

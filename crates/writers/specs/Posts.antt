@@ -12,7 +12,7 @@ use Rattle.value.specs.Rows.{row, rowsFrom, Fields, fieldsOf, Struct, Null}
 use Rattle.schema.specs.Defs
 use Rattle.schema.specs.Defs.{Schema, StructDef, winning}
 use Rattle.schema.specs.Psch.{schemaOf}
-use Rattle.schema.specs.declared.members.Member as coded
+use Rattle.definitions.specs.declared.members.Member as coded
 use Rattle.layout.specs.State.{State, Env, M, bind, ret, addItem}
 use Rattle.layout.specs.Members.{putCounted, need}
 use Rattle.layout.specs.Runs.{Run, Writer, run, structElement}

@@ -1,6 +1,6 @@
 // Where a structure's values come from.
+use definitions::members::read_member;
 use members::Def;
-use schema::members::read_member;
 use value::Found;
 use value::field_named;
 use value::read_row;

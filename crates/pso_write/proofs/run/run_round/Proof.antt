@@ -12,7 +12,7 @@ use Rattle.pso_write.proofs.run.run_round.Reads as reads
 use Rattle.pso_write.proofs.run.run_round.Lts as lts
 use Rattle.area.proofs.items.lay.Reads as lay-reads
 use Rattle.pso_write.proofs.run.begun.Reads as begun-reads
-use Rattle.schema.proofs.members.read_head.Reads as read-head-reads
+use Rattle.definitions.proofs.members.read_head.Reads as read-head-reads
 use Rattle.writers.proofs.write.write_struct.Reads as write-struct-reads
 
 -- src/run.rt:48:9

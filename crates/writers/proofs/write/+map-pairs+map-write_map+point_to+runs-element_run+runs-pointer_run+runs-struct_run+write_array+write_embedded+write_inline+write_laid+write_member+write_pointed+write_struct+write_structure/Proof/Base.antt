@@ -59,7 +59,7 @@ use Rattle.members.proofs.runs.plain_element_run.Reads as plain-element-run-rea
 use Rattle.members.proofs.runs.run_cost.Reads as run-cost-reads
 use Rattle.members.proofs.runs.stop_run.Reads as stop-run-reads
 use Rattle.members.proofs.say.Reads as say-reads
-use Rattle.schema.proofs.members.read_member.Reads as read-member-reads
+use Rattle.definitions.proofs.members.read_member.Reads as read-member-reads
 use Rattle.value.proofs.read_row.Reads as read-row-reads
 use Rattle.value.proofs.value_row.Reads as value-row-reads
 use Rattle.writers.proofs.choose.array_info.Reads as array-info-reads
