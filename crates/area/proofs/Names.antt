@@ -2,7 +2,7 @@
 use mathlib.Core.Path.{_≡_, refl, ap, _∙_}
 use mathlib.Core.Bool.{true, false, cond}
 use mathlib.Core.List.{List, [], _∷_, _++_}
-use Prim.Native.Nat.{ℕ, suc, _+_, _-_, _*_, _^_, _≤_, _<_}
+use Prim.Native.Nat.{ℕ, suc, _+_, _-_, _*_, _≤_, _<_}
 use native.Mathlib.Omega.{arith}
 use lib.Dec.{eqb}
 use lib.ListN.{length}
@@ -37,10 +37,6 @@ module _ (w : Bytes) (at n name : ℕ) where
 -- one more behind the others
 pub words-snoc : (ns : List ℕ) (n : ℕ) → words (ns ++ (n ∷ [])) ≡ words ns ++ bytesOf 4 n
 words-snoc ns n = words-append ns (n ∷ []) ∙ ap (λ (x : Bytes). words ns ++ x) (words-one n)
-
-pub below-snoc : (ns : List ℕ) (n : ℕ) → Below ns → n < 256 ^ 4 → Below (ns ++ (n ∷ []))
-below-snoc [] n b h = (h, tt)
-below-snoc (m ∷ ns) n b h = (b .0, below-snoc ns n (b .1) h)
 
 -- the two ways of an insertion
 pub insert-there : (n : ℕ) (ns : List ℕ) → contains n ns ≡ true → insert n ns ≡ ns

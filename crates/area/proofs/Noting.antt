@@ -8,10 +8,10 @@ use lib.Dec.{ltb}
 use lib.ListN.{length, length-append}
 use borrow.Author.Tests.{lt-ltb, le-ltb}
 use Rattle.numbers.specs.Words.{Bytes, words, over, Stands}
-use Rattle.numbers.proofs.Bytes.{length-words}
+use Rattle.numbers.specs.Result.{Every}
+use Rattle.numbers.proofs.Bytes.{length-words, every-append}
 use Rattle.schema.specs.Defs.{Schema}
 use Rattle.layout.specs.State.{Remark, State, remarked, withRemark}
-use Rattle.layout.specs.Demand3.{Every}
 use Rattle.area.specs.declared.Round.{Round}
 use Rattle.area.specs.declared.Progress.{Progress}
 use Rattle.area.specs.Segments.{flat}
@@ -20,7 +20,7 @@ use Rattle.area.specs.Rows.{rowsIn, Tiny}
 use Rattle.area.specs.Area.{rowsOf, encode, stackAt, segments, Rep, withNotes}
 use Rattle.area.specs.Posts.{Safe, Notes}
 use Rattle.area.proofs.Flat as flat
-use Rattle.area.proofs.Remarks.{kept-snoc, length-rows, rows-stand, rows-snoc, every-snoc}
+use Rattle.area.proofs.Remarks.{kept-snoc, length-rows, rows-stand, rows-snoc}
 
 module _ (R : Round) (n : ℕ) (p : Progress) (w : Bytes) (r : Remark) (safe : Safe R n p) where
   -- what is kept, as the numbers say it
@@ -106,7 +106,7 @@ module _ (R : Round) (n : ℕ) (p : Progress) (w : Bytes) (r : Remark) (safe : S
           let m : length (rowBytes r) ≡ 16 = length-words (r .kind ∷ r .structure ∷ r .member ∷ r .detail ∷ []) in
           rep-noted S s σ (over w (32768 + 16 * p .rows) (rowBytes r)) (p .rows + 1) (p .seen + 1) (p .next + 1) q
           (record { rows = k .rows ++ (r ∷ []); next = k .next + 1; seen = k .seen + 1 }) (rw (t, u, v)) (omega (arith, q .rows, length-append (k .rows) (r ∷ [])))
-          (ap (λ (x : ℕ). x + 1) (q .seen)) (ap (λ (x : ℕ). x + 1) (q .next)) (every-snoc Tiny (k .rows) r (q .tiny) y)
+          (ap (λ (x : ℕ). x + 1) (q .seen)) (ap (λ (x : ℕ). x + 1) (q .next)) (every-append Tiny (k .rows) (r ∷ []) (q .tiny) (y, tt))
           (ap (λ (x : Bytes). over x (32768 + 16 * p .rows) (rowBytes r)) (q .work)
           ∙ flat.append ((32768, rowsOf (s .core .blocks)) ∷ [])
           ((16384, []) ∷ (4 * R .entries, words (s .core .structs)) ∷ (4 * R .entries, words (s .core .enums)) ∷ (R .cap, encode (s .core .items)) ∷ (n - stackAt R, σ) ∷ [])

@@ -6,9 +6,9 @@ use Prim.Native.Nat.{ℕ, suc, _+_, _-_, _*_, _≤_, _<_}
 use native.Mathlib.Omega.{arith}
 use lib.ListN.{length, length-append}
 use Rattle.numbers.specs.Words.{Bytes, words, readAt, Stands, Below}
+use Rattle.numbers.specs.Result.{Every}
 use Rattle.numbers.proofs.Bytes.{left, next, word-at, length-words}
 use Rattle.layout.specs.State.{Remark, sameRemark, remarked}
-use Rattle.layout.specs.Demand3.{Every}
 use Rattle.area.specs.Kept.{Kept, meet, meets, kept, rowBytes, rowsBytes}
 use Rattle.area.specs.Rows.{rowIn, rowsIn, Tiny}
 
@@ -68,7 +68,3 @@ pub rows-snoc : (rs : List Remark) (r : Remark) → rowsBytes (rs ++ (r ∷ []))
 unfolding rowsBytes
 rows-snoc [] r = append-nil (rowBytes r)
 rows-snoc (q ∷ rs) r = rw (rows-snoc rs r, append-assoc)
-
-pub every-snoc : {A : Type 0} (Q : A → Type 0) (l : List A) (a : A) → Every Q l → Q a → Every Q (l ++ (a ∷ []))
-every-snoc Q [] a e q = (q, tt)
-every-snoc Q (x ∷ l) a e q = (e .0, every-snoc Q l a (e .1) q)

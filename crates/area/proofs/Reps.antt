@@ -10,7 +10,6 @@ use Rattle.numbers.specs.Words.{Bytes, words, bytesOf, over, zeros, padded, Sta
 use Rattle.numbers.proofs.Bytes.{cut-at, next, length-words}
 use Rattle.schema.specs.Defs.{Schema, winning, indexEntries}
 use Rattle.layout.specs.State.{Item, Block, Core, Remark, State, withRemark, withCharge}
-use Rattle.layout.specs.Demand3.{Every}
 use Rattle.area.specs.declared.Round.{Round}
 use Rattle.area.specs.declared.Progress.{Progress}
 use Rattle.area.specs.Segments.{Segment, flat, rooms}

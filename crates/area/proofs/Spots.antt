@@ -8,9 +8,9 @@ use lib.Dec.{leb, eqb}
 use lib.ListN.{length, length-append}
 use borrow.Author.Tests.{eq-eqb, eqb-true, le-leb, lt-leb, leb-true}
 use Rattle.numbers.specs.Words.{Bytes, words, readAt, over, Stands, Below}
+use Rattle.numbers.specs.Result.{Every}
 use Rattle.numbers.proofs.Bytes.{left, next, word-at, length-words}
 use Rattle.layout.specs.State.{Block, Spot, spot, past, maxBlock}
-use Rattle.layout.specs.Demand3.{Every}
 use Rattle.area.specs.Area.{rowsOf, Small}
 use Rattle.area.proofs.Over.{over-right, over-part}
 

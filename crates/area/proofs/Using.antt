@@ -7,7 +7,7 @@ use native.Mathlib.Omega.{arith}
 use lib.ListN.{length, length-append, length-map}
 use Rattle.numbers.specs.Words.{Bytes, words, bytesOf, over, Stands, Below}
 use Rattle.numbers.specs.Result.{isSome}
-use Rattle.numbers.proofs.Bytes.{length-words}
+use Rattle.numbers.proofs.Bytes.{length-words, every-append}
 use Rattle.numbers.proofs.Laws.{length-bytes}
 use Rattle.schema.specs.Defs.{Schema, structName, enumName, winning, indexEntries}
 use Rattle.layout.specs.State.{Core, Uses, State, contains, insert}
@@ -24,7 +24,7 @@ use Rattle.area.specs.Rows.{namesIn}
 use Rattle.area.specs.Area.{rowsOf, encode, stackAt, segments, Rep, withUsed, startedIn, usedIn}
 use Rattle.area.specs.Posts.{Safe, Inserts, Marks}
 use Rattle.area.proofs.Flat as flat
-use Rattle.area.proofs.Names.{names-stand, words-snoc, below-snoc, insert-there, insert-new}
+use Rattle.area.proofs.Names.{names-stand, words-snoc, insert-there, insert-new}
 
 -- used names are no more than index entries
 few-names : (S : Schema) (c : Core) → Known (winning S) c → length (c .structs) + length (c .enums) ≤ indexEntries S
@@ -65,7 +65,7 @@ module _ (xs ys : List Segment) (room at count : ℕ) (ns : List ℕ) (w : Bytes
           let f = i .new (ap (contains x) names-are ∙ e) (omega arith) in
           record {
             count = omega (arith, f .0);
-            names = rw g (below-snoc ns x below h);
+            names = rw g (every-append (λ w. w < 256 ^ 4) ns (x ∷ []) below (h, tt));
             work =
                 f .1 ∙ ap (λ (y : Bytes). over y (at + 4 * count) (bytesOf 4 x)) work
                 ∙ flat.append xs ys (4 * room) (words ns) (bytesOf 4 x) (at + 4 * count) (omega (arith, length-words ns, length-bytes 4 x)) (omega (arith, length-words ns))

@@ -4,10 +4,10 @@ use Prim.Native.Nat.{ℕ, _+_, _-_, _*_, _^_, _<_}
 use mathlib.Core.List.{List, [], _∷_, _++_}
 use lib.ListN.{length}
 use Rattle.numbers.specs.Words.{Bytes, words, over, Below}
+use Rattle.numbers.specs.Result.{Every}
 use Rattle.schema.specs.Defs.{Schema, winning, indexEntries}
 use Rattle.layout.specs.State.{Item, Block, Core, Remark, State, Env, insert}
 use Rattle.layout.specs.Build.{workNeed}
-use Rattle.layout.specs.Demand3.{Every}
 use Rattle.layout.specs.Always.{Known}
 use Rattle.area.specs.declared.Round.{Round}
 use Rattle.area.specs.declared.Progress.{Progress}

@@ -6,8 +6,8 @@ use mathlib.Core.List.{List, [], _∷_, _++_}
 use lib.Dec.{ltb}
 use lib.ListN.{length}
 use Rattle.numbers.specs.Words.{Bytes, bytesOf, over, Stands}
+use Rattle.numbers.specs.Result.{Every}
 use Rattle.schema.specs.Defs.{Schema}
-use Rattle.layout.specs.Demand3.{Every}
 use Rattle.layout.specs.State.{Block, Remark, State, withRemark, contains, spot, addItem, Out, done, stop}
 use Rattle.area.specs.declared.Round.{Round}
 use Rattle.area.specs.declared.Progress.{Progress}

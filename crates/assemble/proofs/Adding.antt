@@ -5,8 +5,8 @@ use mathlib.Core.Path.{_≡_, subst}
 use mathlib.Core.List.{List, [], _∷_}
 use lib.ListN.{length}
 use Rattle.numbers.specs.Words.{Bytes, readAt, Stands}
+use Rattle.numbers.specs.Result.{Every}
 use Rattle.layout.specs.State.{Block}
-use Rattle.layout.specs.Demand3.{Every}
 use Rattle.layout.specs.Always.{total}
 use Rattle.area.specs.Area.{rowsOf, Small}
 use Rattle.area.proofs.Spots.{row-at}

@@ -10,11 +10,10 @@ use lib.Seq.{length-take-le}
 use borrow.Author.Tests.{leb-true, leb-false, lt-ltb}
 use borrow.Rule.Slice.PartMut.{putMid}
 use Rattle.numbers.specs.Words.{Bytes, words, over, Stands}
-use Rattle.numbers.specs.Result.{isSome}
+use Rattle.numbers.specs.Result.{isSome, Every}
 use Rattle.numbers.proofs.Bytes.{length-words}
 use Rattle.schema.specs.Defs.{Schema, winning}
 use Rattle.layout.specs.State.{Block, Core, State}
-use Rattle.layout.specs.Demand3.{Every}
 use Rattle.layout.specs.Always.{total, ShortNames}
 use Rattle.layout.specs.Assemble.{Records, recordsOf, usedOf, dataOf, psinOf, pmapOf, pschBytes, fileOf}
 use Rattle.layout.proofs.Places.{data-total, psin-length}

@@ -8,7 +8,7 @@ use mathlib.Core.Option.{Option, none, some}
 use lib.Dec.{eqb}
 use borrow.Author.Tests.{eq-eqb}
 use Rattle.numbers.specs.Words.{Bytes}
-use Rattle.numbers.specs.Result.{ok, isSome, mapOption, orValue}
+use Rattle.numbers.specs.Result.{ok, isSome, mapOption, orValue, Every}
 use Rattle.schema.specs.Defs.{Schema, winning}
 use Rattle.schema.specs.Psch.{schemaOf, structHere, enumHere}
 use Rattle.schema.specs.Index.{lastPlace}
@@ -17,7 +17,6 @@ use Rattle.definitions.specs.declared.lookup.Found.{Found}
 use Rattle.definitions.specs.declared.lookup.Found.the-variants.{At, Nothing}
 use Rattle.definitions.proofs.Finds.{winning-struct, winning-enum}
 use Rattle.layout.specs.State.{Core, contains}
-use Rattle.layout.specs.Demand3.{Every}
 use Rattle.layout.specs.Assemble.{structBytes, enumBytes, Records, recordsOf, found, consOption, usedOf}
 use Rattle.assemble.specs.Used.{kindOf, definitionAt, bodyOf, recordsFor, Lies, Stored}
 use Rattle.assemble.proofs.Lying.{found-lies}

@@ -7,8 +7,8 @@ use mathlib.Core.List.{List, [], _∷_, _++_, append-assoc}
 use lib.ListN.{length, take, drop, length-append, length-map, take-append-drop}
 use lib.Seq.{length-take-le}
 use Rattle.numbers.specs.Words.{Bytes, readAt, words, over}
+use Rattle.numbers.specs.Result.{Every}
 use Rattle.numbers.proofs.Bytes.{length-words}
-use Rattle.layout.specs.Demand3.{Every}
 use Rattle.layout.specs.Assemble.{joined, Records, indexOf, bodies}
 use Rattle.layout.proofs.ReadDefs.{index-length}
 use Rattle.area.specs.Rows.{namesIn}

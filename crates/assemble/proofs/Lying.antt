@@ -4,31 +4,24 @@ use native.Mathlib.Omega.{arith}
 use mathlib.Core.Path.{_≡_, refl, sym, _∙_, ap, subst}
 use mathlib.Core.Bool.{Bool, true, false, cond, _&&_}
 use mathlib.Core.List.{List, [], _∷_, _++_, map}
-use mathlib.Core.Option.{Option, none, some}
+use mathlib.Core.Option.{some}
 use lib.Dec.{ltb, eqb}
 use lib.ListN.{length, take, drop}
 use borrow.Author.Tests.{eqb-true}
 use Rattle.numbers.specs.Words.{Bytes, readAt}
-use Rattle.numbers.specs.Result.{Result, ok, refused, andThen, mapResult, orElse}
+use Rattle.numbers.specs.Result.{Result, ok, refused, andThen, mapResult, Every}
 use Rattle.numbers.proofs.Parts.{read-part}
-use Rattle.schema.specs.Sections.{Sections, section, end, broken, PSCH, lengthAt, overruns, sectionsFrom, sections}
+use Rattle.numbers.proofs.Bytes.{every-append}
+use Rattle.schema.specs.Sections.{Sections, PSCH, sectionsFrom, sections}
 use Rattle.schema.specs.Defs.{Schema}
-use Rattle.schema.specs.Psch.{Def, defAt, defsFrom, pschOf, sectionDefs, defsOf, schemaFrom, schemaOf, Within}
-use Rattle.schema.specs.Index.{indexCount, kept, placesFrom, placesIn, sectionPlaces, placesOf, lastOf, lastPlace}
-use Rattle.schema.proofs.Bounds.{All, all-append}
-use Rattle.schema.proofs.Walk.{whole-part}
+use Rattle.schema.specs.Psch.{Def, defAt, defsFrom, pschOf, sectionDefs, defsOf, schemaOf, Within}
+use Rattle.schema.specs.Index.{kept, placesFrom, placesIn, sectionPlaces, placesOf, lastPlace}
+use Rattle.schema.proofs.Walk.{by-sections}
 use Rattle.schema.proofs.Judge.{Read, def-read}
-use Rattle.schema.proofs.Counts.{Indexed, indexed}
+use Rattle.schema.proofs.Counts.{indexed}
+use Rattle.definitions.proofs.Named.{all-indexed, from-defs}
+use Rattle.definitions.proofs.Inside.{last-has}
 use Rattle.assemble.specs.Used.{kindOf, Lies}
-
-last-has : {A : Type 0} (Q : A → Type 0) (l : List A) → All Q l → (a : A) → lastOf l ≡ some a → Q a
-unfolding lastOf
-last-has Q [] h a e = absurd (let z : _≡_ {A = ℕ} 0 1 = cc in omega arith)
-last-has {A = A} Q (x ∷ l) h a e = go (lastOf l) (last-has Q l (h .1) a) e
-  where
-    go : (o : Option A) → (o ≡ some a → Q a) → orElse o (some x) ≡ some a → Q a
-    go (some y) g f = g f
-    go none g f = let y : x ≡ a = cc in subst Q y (h .0)
 
 module _ (F : Bytes) (k : Bool) (name : ℕ) where
   -- a section that stands at `from`
@@ -54,7 +47,7 @@ module _ (F : Bytes) (k : Bool) (name : ℕ) where
           entries = λ g h. omega (arith, w .entries g (omega (arith, n, h)), n, l, inside);
         }
 
-    one : (nm q : ℕ) (d : Def) (ps : List ℕ) → defAt part nm q ≡ ok d → All Here ps → All Here (kept (eqb nm name && (ltb q (length part) && eqb (readAt 1 part q) (kindOf k))) q ps)
+    one : (nm q : ℕ) (d : Def) (ps : List ℕ) → defAt part nm q ≡ ok d → Every Here ps → Every Here (kept (eqb nm name && (ltb q (length part) && eqb (readAt 1 part q) (kindOf k))) q ps)
     one nm q d ps e h = go (eqb nm name) (ltb q (length part)) (eqb (readAt 1 part q) (kindOf k)) refl
       where
         r : Read part nm q d
@@ -68,83 +61,60 @@ module _ (F : Bytes) (k : Bool) (name : ℕ) where
               within = within-file q (subst (λ j. Within part j q) (sym (r .top) ∙ t) (r .within));
             }
 
-        go : (a b c : Bool) → eqb (readAt 1 part q) (kindOf k) ≡ c → All Here (kept (a && (b && c)) q ps)
+        go : (a b c : Bool) → eqb (readAt 1 part q) (kindOf k) ≡ c → Every Here (kept (a && (b && c)) q ps)
         go false b c f = h
         go true false c f = h
         go true true false f = h
         go true true true f = (here (eqb-true (readAt 1 part q) (kindOf k) f), h)
 
-    with-one : (nm q : ℕ) (ds : List Def) (ps : List ℕ) (X : Result Def) (Y : Result (List Def)) → defAt part nm q ≡ X → ((es : List Def) → Y ≡ ok es → All Here ps)
-        → andThen X (λ d. mapResult (d ∷_) Y) ≡ ok ds → All Here (kept (eqb nm name && (ltb q (length part) && eqb (readAt 1 part q) (kindOf k))) q ps)
+    with-one : (nm q : ℕ) (ds : List Def) (ps : List ℕ) (X : Result Def) (Y : Result (List Def)) → defAt part nm q ≡ X → ((es : List Def) → Y ≡ ok es → Every Here ps)
+        → andThen X (λ d. mapResult (d ∷_) Y) ≡ ok ds → Every Here (kept (eqb nm name && (ltb q (length part) && eqb (readAt 1 part q) (kindOf k))) q ps)
     unfolding andThen mapResult
     with-one nm q ds ps (refused m) Y a ih e = absurd (let z : _≡_ {A = ℕ} 0 1 = cc in omega arith)
     with-one nm q ds ps (ok d) (refused m) a ih e = absurd (let z : _≡_ {A = ℕ} 0 1 = cc in omega arith)
     with-one nm q ds ps (ok d) (ok es) a ih e = one nm q d ps a (ih es refl)
 
-    entries : (n pos : ℕ) (ds : List Def) → defsFrom part n pos ≡ ok ds → All Here (placesFrom part (kindOf k) name n pos)
+    entries : (n pos : ℕ) (ds : List Def) → defsFrom part n pos ≡ ok ds → Every Here (placesFrom part (kindOf k) name n pos)
     unfolding defsFrom placesFrom
     entries zero pos ds e = tt
     entries (suc n) pos ds e =
         with-one (readAt 4 part pos) (readAt 4 part (pos + 4)) ds (placesFrom part (kindOf k) name n (pos + 8)) (defAt part (readAt 4 part pos) (readAt 4 part (pos + 4)))
         (defsFrom part n (pos + 8)) refl (λ es. entries n (pos + 8) es) e
 
-    counted : (ds : List Def) (x : Indexed part ds) (n : ℕ) → x .count ≡ n → x .count ≡ indexCount part
-    counted ds x zero q = omega (arith, x .read, q)
-    counted ds x (suc n) q = omega (arith, x .read, q, x .fits (omega (arith, q)))
-
-    in-section : (ident : ℕ) (ds : List Def) → sectionDefs ident part ≡ ok ds → All Here (sectionPlaces ident part (kindOf k) name)
+    in-section : (ident : ℕ) (ds : List Def) → sectionDefs ident part ≡ ok ds → Every Here (sectionPlaces ident part (kindOf k) name)
     unfolding sectionDefs sectionPlaces
     in-section ident ds = go (eqb ident PSCH)
       where
-        go : (b : Bool) → cond b (pschOf part) (ok []) ≡ ok ds → All Here (cond b (placesIn part (kindOf k) name) [])
+        go : (b : Bool) → cond b (pschOf part) (ok []) ≡ ok ds → Every Here (cond b (placesIn part (kindOf k) name) [])
         go true e =
             let x = indexed part ds e in
-            subst (λ n. All Here (placesFrom part (kindOf k) name n 12)) (counted ds x (x .count) refl) (entries (x .count) 12 ds (x .defs))
+            subst (λ n. Every Here (placesFrom part (kindOf k) name n 12)) (sym (all-indexed part ds x)) (entries (x .count) 12 ds (x .defs))
         go false e = tt
 
-  moved : (from : ℕ) (l : List ℕ) → All (λ x. Lies F k (from + x)) l → All (Lies F k) (map (from +_) l)
+  moved : (from : ℕ) (l : List ℕ) → Every (λ x. Lies F k (from + x)) l → Every (Lies F k) (map (from +_) l)
   moved from [] h = tt
   moved from (x ∷ l) h = (h .0, moved from l (h .1))
 
   with-section : (at next : ℕ) (P : Bytes) (ss : Sections) (ds : List Def) (ps : List ℕ) (X Y : Result (List Def)) → at + length P ≡ next
-      → ((es : List Def) → X ≡ ok es → All (λ x. Lies F k (at + x)) ps) → ((es : List Def) → Y ≡ ok es → All (Lies F k) (placesOf (kindOf k) name ss next))
-      → andThen X (λ es. mapResult (λ fs. es ++ fs) Y) ≡ ok ds → All (Lies F k) (map (at +_) ps ++ placesOf (kindOf k) name ss (at + length P))
+      → ((es : List Def) → X ≡ ok es → Every (λ x. Lies F k (at + x)) ps) → ((es : List Def) → Y ≡ ok es → Every (Lies F k) (placesOf (kindOf k) name ss next))
+      → andThen X (λ es. mapResult (λ fs. es ++ fs) Y) ≡ ok ds → Every (Lies F k) (map (at +_) ps ++ placesOf (kindOf k) name ss (at + length P))
   unfolding andThen mapResult
   with-section at next P ss ds ps (refused m) Y n a b e = absurd (let z : _≡_ {A = ℕ} 0 1 = cc in omega arith)
   with-section at next P ss ds ps (ok es) (refused m) n a b e = absurd (let z : _≡_ {A = ℕ} 0 1 = cc in omega arith)
   with-section at next P ss ds ps (ok es) (ok fs) n a b e =
-      all-append (Lies F k) (map (at +_) ps) (placesOf (kindOf k) name ss (at + length P)) (moved at ps (a es refl))
-      (subst (λ x. All (Lies F k) (placesOf (kindOf k) name ss x)) (sym n) (b fs refl))
+      every-append (Lies F k) (map (at +_) ps) (placesOf (kindOf k) name ss (at + length P)) (moved at ps (a es refl))
+      (subst (λ x. Every (Lies F k) (placesOf (kindOf k) name ss x)) (sym n) (b fs refl))
 
-  all-sections : (n at : ℕ) (ds : List Def) → defsOf (sectionsFrom F n at) ≡ ok ds → All (Lies F k) (placesOf (kindOf k) name (sectionsFrom F n at) at)
-  unfolding sectionsFrom defsOf placesOf
-  all-sections zero at ds e = tt
-  all-sections (suc n) at ds e = go (ltb (length F) (at + 8)) (overruns F at) refl (λ es. all-sections n (at + lengthAt F at) es) e
-    where
-      P : Bytes
-      P = take (lengthAt F at) (drop at F)
-
-      ss : Sections
-      ss = sectionsFrom F n (at + lengthAt F at)
-
-      at-hand : Bool → Bool → Sections
-      at-hand a b = elim a [ true ↦ end | false ↦ elim b [ true ↦ broken | false ↦ section (readAt 4 F at) P ss ] ]
-
-      go : (a b : Bool) → overruns F at ≡ b → ((es : List Def) → defsOf ss ≡ ok es → All (Lies F k) (placesOf (kindOf k) name ss (at + lengthAt F at)))
-          → defsOf (at-hand a b) ≡ ok ds → All (Lies F k) (placesOf (kindOf k) name (at-hand a b) at)
-      go true b q ih f = tt
-      go false true q ih f = tt
-      go false false q ih f =
-          let w = whole-part F at q in
-          with-section at (at + lengthAt F at) P ss ds (sectionPlaces (readAt 4 F at) P (kindOf k) name) (sectionDefs (readAt 4 F at) P) (defsOf ss) (ap (at +_) (w .0))
-          (λ es. in-section at (lengthAt F at) (w .0) (w .1) (readAt 4 F at) es) ih f
-
-  from-defs : (S : Schema) (X : Result (List Def)) → mapResult schemaFrom X ≡ ok S → (A : Type 0) → ((ds : List Def) → X ≡ ok ds → A) → A
-  unfolding mapResult
-  from-defs S (ok ds) e A h = h ds refl
-  from-defs S (refused n) e A h = absurd (let z : _≡_ {A = ℕ} 0 1 = cc in omega arith)
+  all-sections : (n at : ℕ) (ds : List Def) → defsOf (sectionsFrom F n at) ≡ ok ds → Every (Lies F k) (placesOf (kindOf k) name (sectionsFrom F n at) at)
+  unfolding defsOf placesOf
+  all-sections =
+      by-sections F (λ at ss. (ds : List Def) → defsOf ss ≡ ok ds → Every (Lies F k) (placesOf (kindOf k) name ss at)) (λ at ds e. tt) (λ at ds e. tt)
+      λ at len ss l i ih ds e.
+      let P = take len (drop at F) in
+      with-section at (at + len) P ss ds (sectionPlaces (readAt 4 F at) P (kindOf k) name) (sectionDefs (readAt 4 F at) P) (defsOf ss) (ap (at +_) l)
+      (λ es. in-section at len l i (readAt 4 F at) es) ih e
 
   pub found-lies : (S : Schema) → schemaOf F ≡ ok S → (at : ℕ) → lastPlace F (kindOf k) name ≡ some at → Lies F k at
   unfolding schemaOf lastPlace sections
   found-lies S e at q =
-      from-defs S (defsOf (sections F)) e (Lies F k at) λ ds f. last-has (Lies F k) (placesOf (kindOf k) name (sections F) 0) (all-sections (length F) 0 ds f) at q
+      from-defs S (defsOf (sections F)) e (λ s. Lies F k at) λ ds f. last-has (Lies F k) (placesOf (kindOf k) name (sections F) 0) (all-sections (length F) 0 ds f) at q

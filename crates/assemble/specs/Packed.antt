@@ -5,11 +5,10 @@ use mathlib.Core.Bool.{true, false}
 use mathlib.Core.List.{_++_}
 use lib.ListN.{length}
 use Rattle.numbers.specs.Words.{Bytes, over, zeros}
-use Rattle.numbers.specs.Result.{ok}
+use Rattle.numbers.specs.Result.{ok, Every}
 use Rattle.schema.specs.Defs.{Schema, winning}
 use Rattle.schema.specs.Psch.{schemaOf}
 use Rattle.layout.specs.State.{State}
-use Rattle.layout.specs.Demand3.{Every}
 use Rattle.layout.specs.Always.{Tiled}
 use Rattle.layout.specs.Assemble.{Records, fileOf}
 use Rattle.area.specs.declared.Round.{Round}

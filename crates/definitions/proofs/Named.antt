@@ -9,12 +9,12 @@ use lib.ListN.{length, take, drop}
 use borrow.Author.Tests.{lt-ltb, eqb-true}
 use Rattle.numbers.specs.Words.{Bytes, readAt}
 use Rattle.numbers.specs.Result.{Result, ok, refused, andThen, mapResult}
-use Rattle.schema.specs.Sections.{Sections, section, end, broken, PSCH, lengthAt, overruns, sectionsFrom, sections}
+use Rattle.schema.specs.Sections.{Sections, PSCH, sectionsFrom, sections}
 use Rattle.schema.specs.Defs.{Schema, structName, enumName}
 use Rattle.schema.specs.Psch.{Def, structure, enumeration, structHere, enumHere, defAt, defsFrom, pschOf, sectionDefs, defsOf, schemaFrom, schemaOf}
 use Rattle.schema.specs.Index.{indexCount, kept, placesFrom, placesIn, sectionPlaces, placesOf}
 use Rattle.schema.specs.Steps.{defHere}
-use Rattle.schema.proofs.Walk.{whole-part}
+use Rattle.schema.proofs.Walk.{by-sections}
 use Rattle.schema.proofs.Judge.{Read, def-read}
 use Rattle.schema.proofs.Counts.{Indexed, indexed}
 use Rattle.schema.proofs.Places.{def-part}
@@ -51,6 +51,14 @@ unfolding structHere enumHere
 wanted-here P zero want entry name at h = refl
 wanted-here P (suc zero) want entry name at h = refl
 wanted-here P (suc (suc k)) want entry name at h = absurd (omega arith)
+
+-- all entries of a sound section's index lie in it
+pub all-indexed : (P : Bytes) (ds : List Def) (x : Indexed P ds) → indexCount P ≡ x .count
+all-indexed P ds x = go (x .count) refl
+  where
+    go : (n : ℕ) → x .count ≡ n → indexCount P ≡ x .count
+    go zero q = omega (arith, x .read, q)
+    go (suc n) q = omega (arith, x .read, q, x .fits (omega (arith, q)))
 
 -- ---- the entries of one section, which stands at `from` of the file
 module _ (F : Bytes) (from len kind name : ℕ) (l : length (take len (drop from F)) ≡ len) where
@@ -97,10 +105,6 @@ module _ (F : Bytes) (from len kind name : ℕ) (l : length (take len (drop from
       with-one (readAt 4 part pos) (readAt 4 part (pos + 4)) ds (placesFrom part kind name n (pos + 8)) (defAt part (readAt 4 part pos) (readAt 4 part (pos + 4)))
       (defsFrom part n (pos + 8)) refl (λ es. entries n (pos + 8) es) e
 
-  all-inside : (ds : List Def) (x : Indexed part ds) (n : ℕ) → x .count ≡ n → indexCount part ≡ n
-  all-inside ds x zero q = omega (arith, x .read)
-  all-inside ds x (suc n) q = omega (arith, x .read, x .fits (omega arith))
-
   in-section : (ident : ℕ) (ds : List Def) → sectionDefs ident part ≡ ok ds → map here (sectionPlaces ident part kind name) ≡ chosen kind name ds
   unfolding sectionDefs sectionPlaces
   in-section ident ds = go (eqb ident PSCH)
@@ -108,7 +112,7 @@ module _ (F : Bytes) (from len kind name : ℕ) (l : length (take len (drop from
       go : (b : Bool) → cond b (pschOf part) (ok []) ≡ ok ds → map here (cond b (placesIn part kind name) []) ≡ chosen kind name ds
       go true e =
           let x = indexed part ds e in
-          ap (λ (n : ℕ). map here (placesFrom part kind name n 12)) (all-inside ds x (x .count) refl) ∙ entries (x .count) 12 ds (x .defs)
+          ap (λ (n : ℕ). map here (placesFrom part kind name n 12)) (all-indexed part ds x) ∙ entries (x .count) 12 ds (x .defs)
       go false e =
           let f : [] ≡ ds = cc in
           ap (chosen kind name) f
@@ -131,32 +135,16 @@ module _ (F : Bytes) (kind name : ℕ) where
       ∙ ap₂ _++_ (map-map found (at +_) ps ∙ a es refl) (b fs refl) ∙ sym (chosen-append kind name es fs) ∙ ap (chosen kind name) f
 
   all-sections : (n at : ℕ) (ds : List Def) → defsOf (sectionsFrom F n at) ≡ ok ds → map found (placesOf kind name (sectionsFrom F n at) at) ≡ chosen kind name ds
-  unfolding sectionsFrom defsOf placesOf
-  all-sections zero at ds e =
+  unfolding defsOf placesOf
+  all-sections =
+      by-sections F (λ at ss. (ds : List Def) → defsOf ss ≡ ok ds → map found (placesOf kind name ss at) ≡ chosen kind name ds)
+      (λ at ds e.
       let f : [] ≡ ds = cc in
-      ap (chosen kind name) f
-  all-sections (suc n) at ds e = go (ltb (length F) (at + 8)) (overruns F at) refl (λ es. all-sections n (at + lengthAt F at) es) e
-    where
-      P : Bytes
-      P = take (lengthAt F at) (drop at F)
-
-      ss : Sections
-      ss = sectionsFrom F n (at + lengthAt F at)
-
-      at-hand : Bool → Bool → Sections
-      at-hand a b = elim a [ true ↦ end | false ↦ elim b [ true ↦ broken | false ↦ section (readAt 4 F at) P ss ] ]
-
-      go : (a b : Bool) → overruns F at ≡ b
-          → ((es : List Def) → defsOf ss ≡ ok es → map found (placesOf kind name ss (at + lengthAt F at)) ≡ chosen kind name es)
-          → defsOf (at-hand a b) ≡ ok ds → map found (placesOf kind name (at-hand a b) at) ≡ chosen kind name ds
-      go true b q ih e =
-          let f : [] ≡ ds = cc in
-          ap (chosen kind name) f
-      go false true q ih e = cc
-      go false false q ih e =
-          let l = whole-part F at q .0 in
-          with-section at (at + lengthAt F at) P ss ds (sectionPlaces (readAt 4 F at) P kind name) (sectionDefs (readAt 4 F at) P) (defsOf ss) (ap (at +_) l)
-          (λ es. in-section F at (lengthAt F at) kind name l (readAt 4 F at) es) ih e
+      ap (chosen kind name) f)
+      (λ at ds e. cc) λ at len ss l i ih ds e.
+      let P = take len (drop at F) in
+      with-section at (at + len) P ss ds (sectionPlaces (readAt 4 F at) P kind name) (sectionDefs (readAt 4 F at) P) (defsOf ss) (ap (at +_) l)
+      (λ es. in-section F at len kind name l (readAt 4 F at) es) ih e
 
 -- ---- structures and enums apart
 kept-map : {A B : Type 0} (f : A → B) (b : Bool) (a : A) (l : List A) → map f (kept b a l) ≡ kept b (f a) (map f l)
@@ -187,18 +175,18 @@ apart c i h (a ∷ l) (q ∷ ps) e =
     let y : map c l ≡ map (λ r. c (h r)) ps = cc in
     ap₂ _∷_ (i a (h q) x) (apart c i h l ps y)
 
-from-defs : (F : Bytes) (S : Schema) (X : Result (List Def)) → mapResult schemaFrom X ≡ ok S → (Q : Schema → Type 0) → ((ds : List Def) → X ≡ ok ds → Q (schemaFrom ds)) → Q S
+pub from-defs : (S : Schema) (X : Result (List Def)) → mapResult schemaFrom X ≡ ok S → (Q : Schema → Type 0) → ((ds : List Def) → X ≡ ok ds → Q (schemaFrom ds)) → Q S
 unfolding mapResult
-from-defs F S (ok ds) e Q h =
+from-defs S (ok ds) e Q h =
     let f : schemaFrom ds ≡ S = cc in
     subst Q f (h ds refl)
-from-defs F S (refused n) e Q h = absurd (let z : _≡_ {A = ℕ} 0 1 = cc in omega arith)
+from-defs S (refused n) e Q h = absurd (let z : _≡_ {A = ℕ} 0 1 = cc in omega arith)
 
 -- the structures of a name, in index order, by their places
 pub structs-at : (F : Bytes) (S : Schema) (name : ℕ) → schemaOf F ≡ ok S → named structName name (S .structs) ≡ map (structHere F name) (placesOf 0 name (sections F) 0)
 unfolding schemaOf sections
 structs-at F S name e =
-    from-defs F S (defsOf (sections F)) e (λ s. named structName name (s .structs) ≡ map (structHere F name) (placesOf 0 name (sections F) 0))
+    from-defs S (defsOf (sections F)) e (λ s. named structName name (s .structs) ≡ map (structHere F name) (placesOf 0 name (sections F) 0))
     (λ ds q. apart structure (λ x y f. cc) (structHere F name) (named structName name (schemaFrom ds .structs)) (placesOf 0 name (sections F) 0)
     (structs-chosen name ds ∙ sym (all-sections F 0 name (length F) 0 ds q)))
 
@@ -206,6 +194,6 @@ structs-at F S name e =
 pub enums-at : (F : Bytes) (S : Schema) (name : ℕ) → schemaOf F ≡ ok S → named enumName name (S .enums) ≡ map (enumHere F name) (placesOf 1 name (sections F) 0)
 unfolding schemaOf sections
 enums-at F S name e =
-    from-defs F S (defsOf (sections F)) e (λ s. named enumName name (s .enums) ≡ map (enumHere F name) (placesOf 1 name (sections F) 0))
+    from-defs S (defsOf (sections F)) e (λ s. named enumName name (s .enums) ≡ map (enumHere F name) (placesOf 1 name (sections F) 0))
     (λ ds q. apart enumeration (λ x y f. cc) (enumHere F name) (named enumName name (schemaFrom ds .enums)) (placesOf 1 name (sections F) 0)
     (enums-chosen name ds ∙ sym (all-sections F 1 name (length F) 0 ds q)))

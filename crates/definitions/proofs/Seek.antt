@@ -10,7 +10,7 @@ use lib.Dec.{eqb}
 use lib.ListN.{length, take, drop}
 use Rattle.numbers.specs.Words.{Bytes, readAt}
 use Rattle.numbers.specs.Result.{given, isSome, orElse, orValue, mapOption}
-use Rattle.schema.specs.Sections.{Sections, section, end, broken, sections, PSCH}
+use Rattle.schema.specs.Sections.{Sections, section, end, broken, PSCH}
 use Rattle.schema.specs.Index.{leadsTo, kept, placesFrom, placesIn, sectionPlaces, placesOf, lastOf, lastPlace}
 use Rattle.schema.specs.Steps.{rest}
 use Rattle.schema.proofs.Walk.{rest-all, Onward}

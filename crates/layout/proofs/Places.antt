@@ -9,13 +9,13 @@ use mathlib.Core.Option.{Option, none, some}
 use lib.ListN.{length, take, drop, length-append}
 use lib.Seq.{take-append-seam, drop-append-seam}
 use Rattle.numbers.specs.Words.{Bytes, words, bytesOf}
-use Rattle.numbers.specs.Result.{nth}
+use Rattle.numbers.specs.Result.{nth, Every}
 use Rattle.schema.specs.Sections.{PSIN}
 use Rattle.pso.specs.Reader as R
 use Rattle.pso.specs.Blocks.{numbered}
 use Rattle.layout.specs.State.{Item, Block, Core}
 use Rattle.layout.specs.Assemble.{joined, itemsIn, blocksFrom, dataOf, psinOf}
-use Rattle.layout.specs.Demand3.{placesFrom, BlocksTile, ItemsTile, Stands, Every}
+use Rattle.layout.specs.Demand3.{placesFrom, BlocksTile, ItemsTile, Stands}
 use Rattle.layout.specs.Always.{lenAt, AllIn, Tiled, before, total}
 use Rattle.layout.proofs.Items.{bytesIn, bytes-append, itemsIn-mid, tile-len, tile-start}
 use Rattle.layout.proofs.Tiling.{all-mid, says-block, says-start}

@@ -8,13 +8,13 @@ use mathlib.Core.List.{List, [], _∷_, _++_, map}
 use lib.ListN.{length, getD, length-append, length-map}
 use borrow.Author.Tests.{le-ltb}
 use Rattle.numbers.specs.Words.{Bytes, readAt, bytesOf, words, Stands}
-use Rattle.numbers.specs.Result.{Result, ok, andThen, mapResult}
+use Rattle.numbers.specs.Result.{Result, ok, andThen, mapResult, Every}
 use Rattle.numbers.proofs.Bytes.{all-of, left, next, behind, ends, head-at, read-at, word-at, length-bytes, length-words}
 use Rattle.schema.specs.Sections.{PSCH}
 use Rattle.schema.specs.Defs.{Member, StructDef, EnumDef, Schema}
 use Rattle.schema.specs.Psch.{Def, structure, enumeration, memberAt, membersAt, entriesAt, outside, structAt, structHere, enumAt, enumHere, defAt, defsFrom, pschOf, addDef, schemaFrom}
 use Rattle.schema.proofs.Three.{Headed}
-use Rattle.schema.proofs.Bounds.{All, MemberFits, StructFits, EntryFits, EnumFits, DefFits, SchemaFits}
+use Rattle.schema.proofs.Bounds.{MemberFits, StructFits, EntryFits, EnumFits, DefFits, SchemaFits}
 use Rattle.layout.specs.Assemble.{joined, memberBytes, structBytes, enumBytes, Records, recordsOf, indexOf, pschBytes, bodies}
 
 -- n things of k bytes that end in the section
@@ -68,7 +68,7 @@ unfolding joined
 members-length [] = refl
 members-length (m ∷ ms) = omega (arith, length-append (memberBytes m) (joined (map memberBytes ms)), member-length m, members-length ms)
 
-members-back : (P : Bytes) (at : ℕ) (ms : List Member) → All MemberFits ms → Stands P at (joined (map memberBytes ms)) → membersAt P (length ms) at ≡ ms
+members-back : (P : Bytes) (at : ℕ) (ms : List Member) → Every MemberFits ms → Stands P at (joined (map memberBytes ms)) → membersAt P (length ms) at ≡ ms
 unfolding membersAt joined
 members-back P at [] f s = refl
 members-back P at (m ∷ ms) f s =
@@ -85,7 +85,7 @@ unfolding joined
 entries-length [] = refl
 entries-length (e ∷ es) = omega (arith, length-append (entryBytes e) (joined (map entryBytes es)), length-words (e .0 ∷ e .1 ∷ []), entries-length es)
 
-entries-back : (P : Bytes) (at : ℕ) (es : List (ℕ × ℕ)) → All EntryFits es → Stands P at (joined (map entryBytes es)) → entriesAt P (length es) at ≡ es
+entries-back : (P : Bytes) (at : ℕ) (es : List (ℕ × ℕ)) → Every EntryFits es → Stands P at (joined (map entryBytes es)) → entriesAt P (length es) at ≡ es
 unfolding entriesAt joined
 entries-back P at [] f s = refl
 entries-back P at (e ∷ es) f s =
@@ -220,7 +220,7 @@ glue : (r : Result Def) (s : Result (List Def)) (d : Def) (ds : List Def) → r 
 unfolding andThen mapResult
 glue r s d ds e f = rw (e, f)
 
-defs-back : (P : Bytes) (ds : List Def) (i at : ℕ) → All DefFits ds → length P < 256 ^ 4
+defs-back : (P : Bytes) (ds : List Def) (i at : ℕ) → Every DefFits ds → length P < 256 ^ 4
     → Stands P i (indexOf at (map recordOf ds)) → Stands P at (bodies (map recordOf ds)) → defsFrom P (length ds) i ≡ ok ds
 unfolding defsFrom indexOf joined
 defs-back P [] i at f h s t = refl
@@ -311,7 +311,7 @@ module _ (rs : Records) (h : length (pschBytes rs) < 256 ^ 4) where
       rw (psch-count, inside (pschBytes rs) 12 1 0 (omega (arith, psch-length rs)), inside (pschBytes rs) 8 (length rs) 12 (omega (arith, psch-length rs)), e)
 
 -- what PSCH is written with
-pub psch-back : (ds : List Def) → All DefFits ds → length (pschBytes (map recordOf ds)) < 256 ^ 4 → pschOf (pschBytes (map recordOf ds)) ≡ ok ds
+pub psch-back : (ds : List Def) → Every DefFits ds → length (pschBytes (map recordOf ds)) < 256 ^ 4 → pschOf (pschBytes (map recordOf ds)) ≡ ok ds
 psch-back ds f h =
     let rs = map recordOf ds in
     psch-opens rs h (length ds) (sym (length-map ds recordOf)) ∙ defs-back (pschBytes rs) ds 12 (first rs) f h (psch-index rs h) (psch-bodies rs h)
@@ -353,11 +353,11 @@ pub apart : (S : Schema) → schemaFrom (listed S) ≡ S
 unfolding listed
 apart S = structs-listed (S .structs) (map enumeration (S .enums)) (S .enums) (enums-listed (S .enums))
 
-enums-fit : (ds : List EnumDef) → All EnumFits ds → All DefFits (map enumeration ds)
+enums-fit : (ds : List EnumDef) → Every EnumFits ds → Every DefFits (map enumeration ds)
 enums-fit [] f = tt
 enums-fit (d ∷ ds) f = (f .0, enums-fit ds (f .1))
 
-structs-fit : (ds : List StructDef) (l : List Def) → All StructFits ds → All DefFits l → All DefFits (map structure ds ++ l)
+structs-fit : (ds : List StructDef) (l : List Def) → Every StructFits ds → Every DefFits l → Every DefFits (map structure ds ++ l)
 structs-fit [] l f g = g
 structs-fit (d ∷ ds) l f g = (f .0, structs-fit ds l (f .1) g)
 

@@ -7,13 +7,13 @@ use mathlib.Core.List.{List, [], _∷_, _++_, append-nil}
 use mathlib.Core.Option.{Option, none, some}
 use lib.ListN.{length, getD, length-append}
 use Rattle.numbers.specs.Words.{Bytes, readAt, bytesOf, words, Stands}
-use Rattle.numbers.specs.Result.{ok, andThen, mapResult}
+use Rattle.numbers.specs.Result.{ok, andThen, mapResult, Every}
 use Rattle.numbers.proofs.Bytes.{all-of, left, next, word-at, length-bytes, length-words}
 use Rattle.schema.specs.Sections.{section, end, PSIN, PMAP, PSCH, sections}
 use Rattle.schema.specs.Defs.{Lookup}
 use Rattle.schema.specs.Psch.{Def, pschOf, sectionDefs, defsOf, schemaFrom, schemaOf}
 use Rattle.schema.proofs.Three.{Headed, three}
-use Rattle.schema.proofs.Bounds.{All, Fits, SchemaFits, StructFits, EnumFits}
+use Rattle.schema.proofs.Bounds.{Fits, SchemaFits, StructFits, EnumFits}
 use Rattle.layout.specs.State.{Block, Core}
 use Rattle.layout.specs.Assemble.{dataOf, psinOf, blockRows, pmapOf, recordsOf, pschBytes, found, consOption, usedOf, fileOf}
 use Rattle.layout.proofs.Places.{psin-length}
@@ -73,12 +73,12 @@ module _ (root : ℕ) (bs : List Block) where
 
 -- the file
 
-found-fits : {A : Type 0} (Q : A → Type 0) (f : ℕ → Option A) → ((n : ℕ) (d : A) → f n ≡ some d → Q d) → (ns : List ℕ) → All Q (found f ns)
+found-fits : {A : Type 0} (Q : A → Type 0) (f : ℕ → Option A) → ((n : ℕ) (d : A) → f n ≡ some d → Q d) → (ns : List ℕ) → Every Q (found f ns)
 unfolding found
 found-fits Q f h [] = tt
 found-fits {A = A} Q f h (n ∷ ns) = go (f n) refl (found-fits Q f h ns)
   where
-    go : (o : Option A) → f n ≡ o → All Q (found f ns) → All Q (consOption o (found f ns))
+    go : (o : Option A) → f n ≡ o → Every Q (found f ns) → Every Q (consOption o (found f ns))
     go none e r = r
     go (some d) e r = (h n d e, r)
 

@@ -9,14 +9,14 @@ use mathlib.Core.Option.{Option, none, some}
 use lib.Dec.{eqb, leb}
 use lib.ListN.{length}
 use borrow.Author.Tests.{eqb-true, eq-eqb}
-use Rattle.numbers.specs.Result.{given, isSome}
+use Rattle.numbers.specs.Result.{given, isSome, Every}
 use Rattle.numbers.specs.Words.{Bytes}
 use Rattle.schema.specs.Defs.{structName, enumName, winning}
 use Rattle.layout.specs.State.{State, Env, Spot, spot, pointerTo, done, stop, bind, after, remark, pay, withCharge, contains, insert, logStart, logEnum, useStruct, useStructC, useEnum, useEnumC, addItem, addItemC, file, settle}
 use Rattle.layout.specs.State.{onCore as changes}
 use Rattle.layout.specs.Assemble.{found, consOption, usedOf}
 use Rattle.layout.specs.Build.{Laid}
-use Rattle.layout.specs.Demand3.{count, tally, Every, CarriesUsed}
+use Rattle.layout.specs.Demand3.{count, tally, CarriesUsed}
 use Rattle.layout.specs.Always.{Once, Known}
 use Rattle.layout.proofs.Keep.{always, Okay, Keeps}
 use Rattle.layout.proofs.Writers.{Defined, Prims}

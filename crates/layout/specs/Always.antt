@@ -4,11 +4,11 @@ use mathlib.Core.Path.{_≡_}
 use mathlib.Core.Bool.{true}
 use mathlib.Core.List.{List, [], _∷_}
 use lib.ListN.{length}
-use Rattle.numbers.specs.Result.{isSome}
+use Rattle.numbers.specs.Result.{isSome, Every}
 use Rattle.schema.specs.Defs.{Lookup}
 use Rattle.layout.specs.State.{Item, Block, Core, contains}
 use Rattle.layout.specs.Assemble.{itemsIn}
-use Rattle.layout.specs.Demand3.{ItemsTile, Every, tally, count}
+use Rattle.layout.specs.Demand3.{ItemsTile, tally, count}
 
 -- the length of the block that k blocks stand before; 0 where there is none
 unfoldable pub lenAt : ℕ → List Block → ℕ

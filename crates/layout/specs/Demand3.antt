@@ -8,7 +8,7 @@ use mathlib.Core.Option.{some}
 use lib.Dec.{eqb, leb}
 use lib.ListN.{length, take, drop}
 use Rattle.numbers.specs.Words.{Bytes, Octets, words, over}
-use Rattle.numbers.specs.Result.{ok}
+use Rattle.numbers.specs.Result.{ok, Every}
 use Rattle.value.specs.Rows.{Value, Map, Null, row, childrenOf}
 use Rattle.schema.specs.Defs.{Schema, Lookup, StructDef, Member, structName, enumName, winning}
 use Rattle.schema.specs.Psch.{schemaOf}
@@ -70,11 +70,6 @@ pub record Stands (P : R.Pso) (i : Item) : Type 0 where
   pub start : pointerStart (pointerOf i) ≡ i .start
   pub found : numbered (P .blocks) (pointerBlock (pointerOf i)) ≡ some block
   pub bytes : take (length (i .bytes)) (drop (block .place + pointerStart (pointerOf i)) (P .data′)) ≡ i .bytes
-
--- Q holds of every element
-abbrev pub Every : {A : Type 0} → (A → Type 0) → List A → Type 0
-Every Q [] = Unit {0}
-Every Q (a ∷ l) = Q a × Every Q l
 
 -- "The root is laid last; it need not start its block.": it is the last item, it has the pointer that the layout answers, F's root number is the block
 -- number of that pointer, the block has the name of the root's type, and the root's bytes are its last

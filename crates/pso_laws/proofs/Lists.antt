@@ -9,11 +9,11 @@ use lib.Dec.{eqb}
 use lib.ListN.{length, take, drop}
 use borrow.Author.Tests.{eqb-true}
 use Rattle.numbers.specs.Words.{Bytes}
-use Rattle.numbers.specs.Result.{nth}
+use Rattle.numbers.specs.Result.{nth, Every}
 use Rattle.schema.specs.Defs.{firstNamed}
 use Rattle.pso.specs.Reader as R
 use Rattle.layout.specs.State.{Block}
-use Rattle.layout.specs.Demand3.{placesFrom, Every, tally, count}
+use Rattle.layout.specs.Demand3.{placesFrom, tally, count}
 
 -- a part of a front is a part of the whole
 pub part : (n p : ℕ) (A B : Bytes) → length (take n (drop p A)) ≡ n → take n (drop p (A ++ B)) ≡ take n (drop p A)

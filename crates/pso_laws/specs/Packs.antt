@@ -6,7 +6,7 @@ use mathlib.Core.List.{List, [], _∷_, _++_}
 use mathlib.Core.Option.{some}
 use lib.ListN.{length, take, drop}
 use Rattle.numbers.specs.Words.{Bytes, Octets}
-use Rattle.numbers.specs.Result.{ok}
+use Rattle.numbers.specs.Result.{ok, Every}
 use Rattle.value.specs.Rows.{row}
 use Rattle.schema.specs.Defs.{StructDef, EnumDef, Schema, Lookup, winning}
 use Rattle.schema.specs.Psch.{schemaOf}
@@ -14,7 +14,7 @@ use Rattle.pso.specs.Reader.{Pso, parsePso}
 use Rattle.layout.specs.State.{Item, Block, contains}
 use Rattle.layout.specs.Assemble.{itemsIn}
 use Rattle.layout.specs.Build.{Laid, After, layout, buildPso}
-use Rattle.layout.specs.Demand3.{ItemsTile, pointerOf, pointerBlock, pointerStart, Every, CarriesUsed}
+use Rattle.layout.specs.Demand3.{ItemsTile, pointerOf, pointerBlock, pointerStart, CarriesUsed}
 use Rattle.sandvurek.specs.Exports.{outcomeOf, readingOf, blockOf, structureOf, enumOf, IsStruct, IsEnum}
 
 -- "the file stands at the front of the output"

@@ -15,7 +15,7 @@ use Rattle.schema.specs.declared.check.Checked.{Checked}
 use Rattle.schema.specs.declared.check.Checked.the-variants as C
 use Rattle.definitions.specs.declared.lookup.Found.{Found}
 use Rattle.definitions.specs.declared.lookup.Found.the-variants as Fd
-use Rattle.definitions.specs.Answers.{checkedIs}
+use Rattle.schema.specs.Answers.{checkedIs}
 use Rattle.definitions.specs.Answers.{foundIs, structFound}
 use Rattle.schema.specs.Defs.{Schema, StructDef, winning, indexEntries}
 use Rattle.schema.specs.Psch.{schemaOf, structHere}

@@ -6,8 +6,8 @@ use native.Mathlib.Omega.{arith}
 use lib.ListN.{length}
 use borrow.Author.Needs.{needs}
 use Rattle.numbers.specs.Words.{Stands}
+use Rattle.numbers.specs.Result.{Every}
 use Rattle.layout.specs.State.{Block}
-use Rattle.layout.specs.Demand3.{Every}
 use Rattle.area.specs.Area.{rowsOf, Small}
 use Rattle.area.proofs.Spots.{Seeking, seek-begin, seek-here, seek-on, seek-none}
 use Rattle.area.proofs.items.spot.Statement.{statement}

@@ -6,8 +6,8 @@ use native.Mathlib.Omega.{arith}
 use lib.ListN.{length}
 use borrow.Author.Needs.{needs}
 use Rattle.numbers.specs.Words.{Stands}
+use Rattle.numbers.specs.Result.{Every}
 use Rattle.layout.specs.State.{Block}
-use Rattle.layout.specs.Demand3.{Every}
 use Rattle.area.specs.Area.{rowsOf, Small}
 use Rattle.assemble.proofs.Adding.{Adding, add-begin, add-turn, add-last}
 use Rattle.assemble.proofs.file.data_length.Statement.{statement}
