@@ -5,9 +5,9 @@ use mathlib.Core.Bool.{cond}
 use mathlib.Core.List.{List, [], _∷_, map}
 use lib.ListN.{length}
 use Rattle.numbers.specs.Words.{Bytes}
-use Rattle.numbers.specs.Signed.{signedOf, wordOf}
-use Rattle.numbers.specs.Round.{f32Of}
-use Rattle.numbers.specs.Trunc.{i64Of}
+use Rattle.conversions.specs.Signed.{signedOf, wordOf}
+use Rattle.conversions.specs.Round.{f32Of}
+use Rattle.conversions.specs.Trunc.{i64Of}
 use Rattle.coerce.specs.Text.{trimmed, parts}
 use Rattle.coerce.specs.Float.{parsesFloat}
 use Rattle.coerce.specs.Numbers.{Fit, fits, unfit, floatText, intText}

@@ -7,14 +7,14 @@ use lib.Dec.{leb, ltb}
 use lib.IntN.{ℤ, pos}
 use lib.ListN.{length, getD}
 use Rattle.numbers.specs.Words.{Bytes, over}
-use Rattle.numbers.specs.Radix.{signed, unsigned}
+use Rattle.conversions.specs.Radix.{signed, unsigned}
 use Rattle.numbers.specs.Result.{isSome, orValue}
-use Rattle.numbers.specs.declared.parse.Number.{Number}
-use Rattle.numbers.specs.declared.parse.Number.the-variants as N
-use Rattle.numbers.specs.declared.parse.Whole.{Whole}
-use Rattle.numbers.specs.declared.parse.Whole.the-variants as W
-use Rattle.numbers.specs.declared.parse.Word.{Word}
-use Rattle.numbers.specs.declared.parse.Word.the-variants as D
+use Rattle.conversions.specs.declared.parse.Number.{Number}
+use Rattle.conversions.specs.declared.parse.Number.the-variants as N
+use Rattle.conversions.specs.declared.parse.Whole.{Whole}
+use Rattle.conversions.specs.declared.parse.Whole.the-variants as W
+use Rattle.conversions.specs.declared.parse.Word.{Word}
+use Rattle.conversions.specs.declared.parse.Word.the-variants as D
 use Rattle.value.specs.Rows
 use Rattle.schema.specs.Psch.{entriesAt}
 use Rattle.coerce.specs.Numbers.{Fit, fits, unfit, floatText, strOf}

@@ -9,8 +9,8 @@ use lib.Arith.{lt-of-le-ne}
 use lib.ListN.{length, take}
 use Rattle.numbers.specs.Words.{Bytes, bytesOf, words, over}
 use Rattle.numbers.specs.Result.{isSome, orValue, mapOption}
-use Rattle.numbers.specs.Answer.{wordIs}
-use Rattle.numbers.specs.declared.parse.Word.{Word}
+use Rattle.conversions.specs.Answer.{wordIs}
+use Rattle.conversions.specs.declared.parse.Word.{Word}
 use Rattle.value.specs.Rows.{Row}
 use Rattle.coerce.specs.Numbers.{Fit, fits, unfit, floatText, mapFit, fitOr, intOf, floatOf, vecOf}
 use Rattle.coerce.specs.Names.{hashOf, enumValue, flagsBits}

@@ -11,9 +11,8 @@ use lib.ListN.{length, getD, take, drop, length-take, length-drop, drop-of-lengt
 use mathlib.Core.Logic.{⊎-elim}
 use lib.Seq.{drop-cons, length-take-le}
 use Rattle.numbers.specs.Words.{Bytes, number, readAt, bytesOf, sameBytes, nameBytes, Named, Octets}
-use Rattle.numbers.proofs.Parts.{take-cons, read-fewer}
+use Rattle.numbers.proofs.Parts.{take-cons, read-fewer, split}
 use Rattle.numbers.proofs.Bytes.{octets, octets-take, octets-drop, below, read-below, bytes-number}
-use Rattle.numbers.proofs.Units.{split}
 
 -- of two lengths, they differ
 pub same-lengths : (a b : Bytes) → (length a ≡ length b → ⊥) → sameBytes a b ≡ false

@@ -3,7 +3,7 @@ use mathlib.Core.Path.{subst}
 use lib.IntN.{ℤ}
 use mir.Facts.{toZ-ofZ}
 use borrow.Author.Needs.{needs}
-use Rattle.numbers.specs.Round.{Rounded}
+use Rattle.conversions.specs.Round.{Rounded}
 use Rattle.leaves.proofs.leaf_f32_of_i64.Statement.{statement}
 use Rattle.leaves.proofs.leaf_f32_of_i64.Tie as tie
 

@@ -5,8 +5,8 @@ use mir.Syntax.{w64}
 use lib.IntN.{ℤ, pos, _-ℤ_, _*ℤ_}
 use mir.Facts.{toZ-ofZ}
 use borrow.Author.Needs.{needs}
-use Rattle.numbers.specs.Single.{value}
-use Rattle.numbers.specs.Round.{f32Of}
+use Rattle.conversions.specs.Single.{value}
+use Rattle.conversions.specs.Round.{f32Of}
 use Rattle.leaves.proofs.leaf_f32_rest.Statement.{statement}
 use Rattle.leaves.proofs.leaf_f32_rest.Tie as tie
 

@@ -1,7 +1,7 @@
 -- `leaves::leaf_hash_of` meets its contract. Assumes nothing.
 use mathlib.Core.Path.{ap, _∙_}
 use borrow.Author.Needs.{needs}
-use Rattle.numbers.specs.Answer.{wordIs}
+use Rattle.conversions.specs.Answer.{wordIs}
 use Rattle.coerce.specs.Names.{hashOf}
 use Rattle.value.specs.Rows.{Row}
 use Rattle.leaves.specs.Codes

@@ -6,8 +6,8 @@ use borrow.Author.Needs.{needs}
 use borrow.Author.Tests.{le-leb, lt-leb}
 use Rattle.leaves.specs.declared.Signed.{Signed}
 use Rattle.leaves.specs.Codes
-use Rattle.numbers.proofs.Integers.{signed-fits, read-some}
-use Rattle.numbers.specs.Radix.{signed}
+use Rattle.conversions.proofs.Integers.{signed-fits, read-some}
+use Rattle.conversions.specs.Radix.{signed}
 use Rattle.leaves.proofs.leaf_i64_of.Statement.{statement}
 use Rattle.leaves.proofs.leaf_i64_of.Tie as tie
 
