@@ -8,8 +8,8 @@ use Rattle.numbers.specs.Words.{Bytes}
 use Rattle.conversions.specs.Signed.{signedOf, wordOf}
 use Rattle.conversions.specs.Round.{f32Of}
 use Rattle.conversions.specs.Trunc.{i64Of}
-use Rattle.coerce.specs.Text.{trimmed, parts}
-use Rattle.coerce.specs.Float.{parsesFloat}
+use Rattle.texts.specs.Text.{trimmed, parts}
+use Rattle.texts.specs.Float.{parsesFloat}
 use Rattle.coerce.specs.Numbers.{Fit, fits, unfit, floatText, intText}
 use Rattle.coerce.specs.Names.{hashText}
 use Rattle.pso_laws.specs.Eval

@@ -10,8 +10,8 @@ use lib.ListN.{length, take, drop, replicate, drop-of-length-le}
 use lib.Seq.{drop-drop}
 use Rattle.numbers.specs.Words.{Bytes, isEmpty}
 use Rattle.value.specs.Rows
-use Rattle.coerce.specs.Text.{untilParting, split, nonEmpty, parts}
-use Rattle.coerce.specs.Float.{parsesFloat}
+use Rattle.texts.specs.Text.{untilParting, split, nonEmpty, parts}
+use Rattle.texts.specs.Float.{parsesFloat}
 use Rattle.coerce.specs.Numbers
 use Rattle.coerce.specs.Numbers.{Fit, fits, unfit, floatText, fitThen, mapFit}
 use Rattle.coerce.specs.Answer
@@ -19,7 +19,7 @@ use Rattle.coerce.specs.declared.whole.Bits.{Bits}
 use Rattle.coerce.specs.declared.whole.Bits.the-variants as B
 use Rattle.coerce.specs.declared.vector.Vector.{Vector}
 use Rattle.coerce.specs.declared.vector.Vector.the-variants as Vec
-use Rattle.coerce.proofs.Splits.{parts-step}
+use Rattle.texts.proofs.Splits.{parts-step}
 
 -- ---- a text's first part
 

@@ -2,11 +2,11 @@
 ghost use mathlib.Core.Path.{_≡_};
 ghost use Prim.Native.Nat.{_<_, _^_};
 ghost use Rattle.value.specs.Rows.{rowsFrom};
-ghost use Rattle.coerce.specs.Text.{parts};
+ghost use Rattle.texts.specs.Text.{parts};
 ghost use Rattle.coerce.specs.Numbers;
 ghost use Rattle.coerce.specs.Answer;
-use crate::float::parses_float;
-use crate::text::until_parting;
+use texts::float::parses_float;
+use texts::text::until_parting;
 use crate::whole::Bits;
 use crate::whole::float_of;
 use numbers::words::part_from;

@@ -9,7 +9,7 @@ use lib.ListN.{length, take}
 use Rattle.numbers.specs.Words.{Bytes, words, over, isEmpty, zeros}
 use Rattle.numbers.specs.Result.{nth}
 use Rattle.value.specs.Rows.{Value, Row, Fields, fieldsOf, fieldNamed, childrenOf, textOf, Null, Str, Array, Map, Struct}
-use Rattle.coerce.specs.Text.{trimmed}
+use Rattle.texts.specs.Text.{trimmed}
 use Rattle.schema.specs.Defs.{StructDef, Member}
 use Rattle.layout.specs.State.{Env, M, bind, ret, fail, ifM, optM, pay, useStruct, addItem}
 use Rattle.layout.specs.Kinds

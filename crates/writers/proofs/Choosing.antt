@@ -9,7 +9,7 @@ use lib.Dec.{ltb, eqb}
 use Rattle.numbers.specs.Words.{Bytes, isEmpty}
 use Rattle.numbers.specs.Result.{ok, isSome, nth}
 use Rattle.value.specs.Rows.{Row, textOf}
-use Rattle.coerce.specs.Text.{trimmed}
+use Rattle.texts.specs.Text.{trimmed}
 use Rattle.schema.specs.Defs
 use Rattle.schema.specs.Defs.{Schema, winning}
 use Rattle.schema.specs.Psch.{schemaOf, memberAt}

@@ -5,7 +5,7 @@ use native.Mathlib.Omega.{arith}
 use borrow.Author.Needs.{needs}
 use lib.ListN.{length, drop}
 use Rattle.coerce.specs.Answer
-use Rattle.coerce.specs.Text.{parts}
+use Rattle.texts.specs.Text.{parts}
 use Rattle.coerce.proofs.Vectors
 use Rattle.coerce.proofs.vector.first_parses.Statement.{statement}
 use Rattle.coerce.proofs.vector.first_parses.Tie as tie

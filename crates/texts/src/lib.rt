@@ -1,0 +1,3 @@
+// Texts: trimming, parts, words, and which of them are floats.
+pub mod float;
+pub mod text;
