@@ -18,10 +18,8 @@ ghost use Rattle.coerce.specs.Names.{hashOf};
 ghost use Rattle.coerce.specs.Answer.{intIs, bitsIs, vecIs};
 ghost use Rattle.leaves.specs.Codes;
 use coerce::flags::flags_bits;
-use texts::float::parses_float;
 use coerce::names::enum_value;
 use coerce::names::hash_of;
-use texts::text::trim;
 use coerce::vector::Vector;
 use coerce::vector::vec_of;
 use coerce::whole::Bits;
@@ -41,6 +39,8 @@ use conversions::single::f32_rest;
 use conversions::single::i64_of_f32;
 use hash::rage_joaat;
 use numbers::words::copy;
+use texts::float::parses_float;
+use texts::text::trim;
 use value::read_row;
 
 #[repr(C)]
