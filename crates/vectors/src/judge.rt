@@ -1,4 +1,6 @@
 // What is compared with the recorded answer: numbers, bytes, records, and what was lent and must be as it was, or zero.
+use area::notes::row_at;
+use area::notes::same as same_remark;
 use layout::Remark;
 use numbers::words::part_from;
 use numbers::words::part_to;
@@ -47,29 +49,12 @@ fn all_are(s: &[u8], at: usize, b: u8) -> bool {
     true
 }
 
-fn equal(a: Remark, b: Remark) -> bool {
-    let p = (a.kind == b.kind) & (a.structure == b.structure);
-    let q = (a.member == b.member) & (a.detail == b.detail);
-    p & q
-}
-
-fn record_at(s: &[u8], at: usize) -> Remark
-    requires { ⌜ at < 1099511627776 ⌝ }
-{
-    Remark {
-        kind: read_u32(s, at),
-        structure: read_u32(s, at + 4),
-        member: read_u32(s, at + 8),
-        detail: read_u32(s, at + 12),
-    }
-}
-
 // Record i as it must be: a remark, then zeros, then noise behind the records that were lent.
 fn wanted(s: &[u8], count: usize, n: usize, i: usize) -> Remark
     requires { ⌜ i < 64 ⌝ }
 {
     if i < count {
-        record_at(s, 16 * i)
+        row_at(s, 16 * i)
     } else {
         if i < n { record(0) } else { record(2779096485) }
     }
@@ -79,7 +64,7 @@ fn wanted(s: &[u8], count: usize, n: usize, i: usize) -> Remark
 fn records(s: &[u8], count: usize, n: usize, list: [Remark; 64]) -> bool {
     let mut i: usize = 0;
     while i < 64 {
-        if !equal(list[i], wanted(s, count, n, i)) {
+        if !same_remark(list[i], wanted(s, count, n, i)) {
             return false;
         }
         i += 1;
