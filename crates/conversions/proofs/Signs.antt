@@ -1,7 +1,7 @@
 -- A signed number below 0 and one that is not, as the machine reads it back from its bits. Assumes nothing.
 use mathlib.Core.Path.{_≡_, refl, sym, ap, _∙_}
 use mathlib.Core.Bool.{Bool, true, false, cond}
-use Prim.Native.Nat.{ℕ, zero, suc, _+_, _-_, _%_, _^_, _≤_, _<_}
+use Prim.Native.Nat.{ℕ, zero, suc, _+_, _-_, _^_, _≤_, _<_}
 use native.Mathlib.Omega.{arith}
 use borrow.Author.Tests.{le-ltb, ltb-true}
 use lib.IntN.{ℤ, pos, negsuc, negℤ, _-ℤ_}
@@ -80,7 +80,3 @@ signed32 v g = signs (2 ^ 32) (2 ^ 31) v g (ltb v (2 ^ 31)) refl
 pub word64 : (x : ℤ) → SFits w64 x → ofZ w64 x ≡ wordOf 64 x
 word64 (pos n) s = let h : n < 2 ^ 63 = s .sfits in omega arith
 word64 (negsuc n) s = let h : n < 2 ^ 63 = s .sfits in omega arith
-
-pub word32 : (x : ℤ) → SFits w64 x → ofZ w64 x % 2 ^ 32 ≡ wordOf 32 x
-word32 (pos n) s = refl
-word32 (negsuc n) s = let h : n < 2 ^ 63 = s .sfits in omega arith

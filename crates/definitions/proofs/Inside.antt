@@ -12,7 +12,7 @@ use Rattle.numbers.specs.Words.{Bytes, readAt}
 use Rattle.numbers.specs.Result.{orElse, Every}
 use Rattle.numbers.proofs.Bytes.{every-append}
 use Rattle.schema.specs.Sections.{PSCH, sectionsFrom, sections}
-use Rattle.schema.specs.Index.{indexCount, kept, placesFrom, placesIn, sectionPlaces, placesOf, firstOf, lastOf, firstPlace, lastPlace}
+use Rattle.schema.specs.Index.{indexCount, kept, placesFrom, placesIn, sectionPlaces, placesOf, lastOf, lastPlace}
 use Rattle.schema.proofs.Walk.{by-sections}
 
 module _ {A : Type 0} (Q : A → Type 0) where
@@ -24,11 +24,6 @@ module _ {A : Type 0} (Q : A → Type 0) where
       go : (o : Option A) → (o ≡ some a → Q a) → orElse o (some x) ≡ some a → Q a
       go (some y) g f = g f
       go none g f = let y : x ≡ a = cc in subst Q y (h .0)
-
-  first-has : (l : List A) → Every Q l → (a : A) → firstOf l ≡ some a → Q a
-  unfolding firstOf
-  first-has [] h a e = absurd (let z : _≡_ {A = ℕ} 0 1 = cc in omega arith)
-  first-has (x ∷ l) h a e = let y : x ≡ a = cc in subst Q y (h .0)
 
 module _ (P : Bytes) (kind name : ℕ) where
   one-inside : (nm q : ℕ) (l : List ℕ) → Every (λ x. x < length P) l
@@ -74,7 +69,3 @@ module _ (F : Bytes) (kind name : ℕ) where
   pub last-inside : (at : ℕ) → lastPlace F kind name ≡ some at → at < length F
   unfolding lastPlace sections
   last-inside at e = last-has (λ x. x < length F) (placesOf kind name (sections F) 0) (all-inside (length F) 0) at e
-
-  pub first-inside : (at : ℕ) → firstPlace F kind name ≡ some at → at < length F
-  unfolding firstPlace sections
-  first-inside at e = first-has (λ x. x < length F) (placesOf kind name (sections F) 0) (all-inside (length F) 0) at e
