@@ -12,21 +12,22 @@ use Rattle.schema.specs.Defs.{Schema, winning}
 use Rattle.layout.specs.State.{Remark, State, thinned, thin, eventsOf}
 use Rattle.layout.specs.Assemble.{fileOf}
 use Rattle.layout.specs.Build as Build
-use Rattle.layout.specs.Build.{Answer, success, refusal, After, zeroRemark, packed, build, afterwards, buildPso, filled}
+use Rattle.layout.specs.Build.{Answer, success, After, zeroRemark, packed, build, afterwards, buildPso, filled}
 use Rattle.area.proofs.Flat.{length-zeros}
 use Rattle.area.specs.declared.Round.{Round}
 use Rattle.pso_write.specs.declared.Built.{Built}
 use Rattle.pso_write.specs.declared.Built.the-variants.{File, Refused}
-use Rattle.pso_write.specs.declared.Job.{Job}
-use Rattle.pso_write.specs.declared.Stage.{Stage}
-use Rattle.pso_write.specs.declared.rounds.Opening.the-variants as O
+use Rattle.rounds.specs.declared.Job.{Job}
+use Rattle.rounds.specs.declared.Stage.{Stage}
+use Rattle.rounds.specs.declared.opening.Opening.the-variants as O
 use Rattle.pso_write.specs.Answers.{answerOf, leaves}
 use Rattle.assemble.specs.Map.{placesOf}
 use Rattle.assemble.specs.Packed.{Fitting, SomeFitting, tableAt, InUse}
 use Rattle.assemble.proofs.Wiping.{tabled-in-use}
-use Rattle.pso_write.specs.Rounds.{Roomy, Rooted, runOf, Laid}
-use Rattle.pso_write.specs.Merge.{noJob, refusalOf, remarksIn, Closing, Inv, Takes, Opens, Begins, Ends}
-use Rattle.pso_write.proofs.Merges.{closes}
+use Rattle.rounds.specs.Run.{Roomy, Rooted, runOf, Laid}
+use Rattle.rounds.specs.Merge.{noJob, refusalOf, remarksIn, Closing, Inv, Takes, Opens}
+use Rattle.pso_write.specs.Turns.{Begins, Ends}
+use Rattle.rounds.proofs.Merges.{closes}
 
 -- the whole area cleared
 pub cleared : (w : Bytes) → over w 0 (zeros (length w)) ≡ zeros (length w)

@@ -1,22 +1,23 @@
 // The driver's steps: what each turn makes of the record that it is given.
 use crate::Built;
-use crate::Stage;
 use crate::Turn;
-use crate::rounds::Opening;
-use crate::rounds::judged;
-use crate::rounds::no_job;
-use crate::rounds::opened;
-use crate::rounds::refusal;
-use crate::rounds::seek;
-use crate::rounds::take_round;
 use area::notes::row_at;
 use area::notes::same;
 use assemble::file::put_file;
 use assemble::file::wipe;
 use layout::Remark;
 use numbers::words::clear;
+use rounds::Stage;
+use rounds::merge::judged;
+use rounds::merge::no_job;
+use rounds::merge::refusal;
+use rounds::merge::seek;
+use rounds::merge::take_round;
+use rounds::opening::Opening;
+use rounds::opening::opened;
 ghost use lib.ListN.{length};
-ghost use Rattle.pso_write.specs.Merge.{Fit, Passes, Ready, Steps, Begins, Closing, Ends};
+ghost use Rattle.rounds.specs.Merge.{Fit, Closing};
+ghost use Rattle.pso_write.specs.Turns.{Passes, Ready, Steps, Begins, Ends};
 
 // The work area is cleared, all is checked, and the first round runs.
 pub fn first(sheet: &[u8], schema: &[u8], work: &mut [u8], size: usize, room: usize) -> Stage

@@ -48,9 +48,9 @@ use denote.Triple.Walked.{says, walkOf, goes-none-slice, goes-slice, goes-gave-s
 use denote.Exit.{yes}
 use Rattle.layout.specs.Build.{zeroRemark, filled}
 use Rattle.layout.specs.declared.Remark.{Remark}
-use Rattle.pso_write.specs.Merge.{Begins, Steps}
+use Rattle.pso_write.specs.Turns.{Begins, Steps}
 use Rattle.pso_write.specs.declared.Built.{Built}
-use Rattle.pso_write.specs.declared.Stage.{Stage as St}
+use Rattle.rounds.specs.declared.Stage.{Stage as St}
 use Rattle.pso_write.specs.declared.Turn.{Turn}
 use Rattle.pso_write.proofs.Again.{LentAgain, lends-at, back-at}
 use Rattle.pso_write.proofs.Shared.{LentShared, shares-at, unshares-at}
@@ -58,8 +58,8 @@ use Rattle.pso_write.proofs.Built as O
 use Rattle.pso_write.proofs.Built.Laws as O′
 use Rattle.layout.proofs.Remark as T
 use Rattle.layout.proofs.Remark.Laws as T′
-use Rattle.pso_write.proofs.Stage as S
-use Rattle.pso_write.proofs.Stage.Laws as S′
+use Rattle.rounds.proofs.Stage as S
+use Rattle.rounds.proofs.Stage.Laws as S′
 use Rattle.pso_write.proofs.Turn as U
 use Rattle.pso_write.proofs.Turn.Laws as U′
 use Rattle.pso_write.proofs.load as load′

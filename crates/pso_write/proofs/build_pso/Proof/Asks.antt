@@ -23,12 +23,13 @@ use denote.Steps.{owned, nothing}
 use denote.Struct.Laws as LL
 use denote.Triple.Walked.{says}
 use Rattle.layout.specs.declared.Remark.{Remark}
-use Rattle.pso_write.specs.Merge.{Ready, Closing}
-use Rattle.pso_write.specs.declared.Stage.{Stage as St}
+use Rattle.rounds.specs.Merge.{Closing}
+use Rattle.pso_write.specs.Turns.{Ready}
+use Rattle.rounds.specs.declared.Stage.{Stage as St}
 use Rattle.layout.proofs.Remark as T
 use Rattle.layout.proofs.Remark.Laws as T′
-use Rattle.pso_write.proofs.Stage as S
-use Rattle.pso_write.proofs.Stage.Laws as S′
+use Rattle.rounds.proofs.Stage as S
+use Rattle.rounds.proofs.Stage.Laws as S′
 use Rattle.pso_write.proofs.build_pso.Proof.Types.{Load, Store, Begin, Step, Rest, Finish, IsSt}
 
 module _ {M : Type 1} (𝓤 : URA M) (H : Heap 𝓤) (A : Atoms 𝓤) (mem : Memory → SProp 𝓤) (run : Routine → Fun 𝓤) where

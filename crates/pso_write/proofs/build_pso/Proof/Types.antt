@@ -17,10 +17,10 @@ use denote.Triple.Spec.{tripleOf}
 use denote.Triple.Statement.{Contract}
 use denote.Triple.Walked.{Stays, stay-none-slice, stay-slice, gave-slice}
 use denote.Exit.{yes}
-use Rattle.pso_write.specs.declared.Stage.{Stage as St}
+use Rattle.rounds.specs.declared.Stage.{Stage as St}
 use Rattle.layout.proofs.Remark as T
-use Rattle.pso_write.proofs.Stage as S
-use Rattle.pso_write.proofs.Stage.Laws as S′
+use Rattle.rounds.proofs.Stage as S
+use Rattle.rounds.proofs.Stage.Laws as S′
 use Rattle.pso_write.proofs.load as load′
 use Rattle.pso_write.proofs.store as store′
 use Rattle.pso_write.proofs.turns.first as begin′

@@ -2,7 +2,7 @@
 use mathlib.Core.Path.{sym, subst, _∙_}
 use lib.ListN.{length}
 use borrow.Author.Needs.{needs}
-use Rattle.pso_write.specs.Merge.{Opens}
+use Rattle.rounds.specs.Merge.{Opens}
 use Rattle.pso_write.proofs.Endings.{begin-refused, begin-ready, begin-round}
 use Rattle.pso_write.proofs.turns.first.Statement.{statement}
 use Rattle.pso_write.proofs.turns.first.Tie as tie

@@ -1,7 +1,7 @@
 -- `pso_write::turns::passed` meets its contract. Assumes nothing.
 use mathlib.Core.Path.{sym, subst, _∙_}
 use borrow.Author.Needs.{needs}
-use Rattle.pso_write.specs.Merge.{Passes}
+use Rattle.pso_write.specs.Turns.{Passes}
 use Rattle.pso_write.proofs.Passing.{pass-next, pass-end, round-again, pass-round}
 use Rattle.pso_write.proofs.turns.passed.Statement.{statement}
 use Rattle.pso_write.proofs.turns.passed.Tie as tie

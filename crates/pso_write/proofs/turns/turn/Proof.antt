@@ -3,7 +3,7 @@ use mathlib.Core.Path.{sym, ap, _∙_}
 use native.Mathlib.Omega.{arith}
 use borrow.Author.Needs.{needs}
 use Rattle.layout.specs.State.{sameRemark}
-use Rattle.pso_write.proofs.Merges.{step-found, step-next, fit-put, step-put}
+use Rattle.pso_write.proofs.Turning.{step-found, step-next, fit-put, step-put}
 use Rattle.pso_write.proofs.turns.turn.Statement.{statement}
 use Rattle.pso_write.proofs.turns.turn.Tie as tie
 

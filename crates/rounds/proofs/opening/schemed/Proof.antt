@@ -1,0 +1,20 @@
+-- `rounds::opening::schemed` meets its contract. Assumes nothing.
+use borrow.Author.Needs.{needs}
+use Rattle.rounds.proofs.Openings.{schema-bad, schema-good}
+use Rattle.rounds.proofs.opening.schemed.Statement.{statement}
+use Rattle.rounds.proofs.opening.schemed.Tie as tie
+
+pub schemed-spec : {M : Type 1} → statement M
+schemed-spec =
+    tie.close
+    (tie.spec
+    (λ c κs. search needs) (λ c. search needs) (λ c. search needs) (λ c κs. search needs)
+    (λ c.
+    let a = c .before .before .before .before .before .before .args in
+    let q = c .before .before .before .check-schema in
+    schema-bad (a .sheet .now) (a .schema .now) (a .work) (c .before .k .given .0 .0) (q .result) (q .ensures) (c .before .k .given .1))
+    (λ c.
+    let a = c .before .before .before .before .before .before .before .args in
+    let q = c .before .before .before .before .check-schema in
+    let s = schema-good (a .schema .now) (c .before .before .entries .given .0 .0) (q .result) (q .ensures) (c .before .before .entries .given .1) in
+    c .rooted .ensures (s .0) (s .1 .0) (s .1 .1)))
