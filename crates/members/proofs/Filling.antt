@@ -9,11 +9,12 @@ use lib.Dec.{leb}
 use lib.ListN.{length, take, drop}
 use borrow.Rule.Slice.PartMut.{putMid, mid-len, same-len-mid, put-same}
 use Rattle.numbers.specs.Words.{Bytes, over}
-use Rattle.numbers.specs.Result.{isSome}
+use Rattle.numbers.specs.Result.{ok, isSome}
 use Rattle.value.specs.Rows.{Value, Row, valueRow}
 use Rattle.coerce.specs.Numbers.{Fit, fits, unfit, floatText}
 use Rattle.schema.specs.Defs
 use Rattle.schema.specs.Defs.{Schema, StructDef, winning}
+use Rattle.schema.specs.Psch.{schemaOf}
 use Rattle.definitions.specs.declared.members.Member as coded
 use Rattle.layout.specs.State.{Remark, State, M, done, after, bind, ret, fail, ifM, optM, fitM, remark, settle, onCore, logEnum, useEnumC, useEnum, withRemark}
 use Rattle.layout.specs.Kinds as Kinds
@@ -21,15 +22,17 @@ use Rattle.layout.specs.Members.{says, leaves, need, wrong}
 use Rattle.area.specs.declared.Round.{Round}
 use Rattle.area.specs.declared.Progress.{Progress}
 use Rattle.area.specs.Area.{Rep, usedIn, envOf}
-use Rattle.area.specs.Posts.{Safe, Open, Notes, Marks, gives}
+use Rattle.area.specs.Posts.{Safe, Open, Notes, Marks}
 use Rattle.area.proofs.Lending.{buffer, lent}
-use Rattle.members.specs.declared.Def.{Def}
+use Rattle.cells.specs.declared.defs.Def.{Def}
+use Rattle.cells.specs.declared.Put.the-variants.{Stored, Unfit, FloatText}
+use Rattle.cells.specs.Names.{defOf, memberOf}
+use Rattle.cells.specs.Cells.{Puts}
+use Rattle.cells.specs.declared.plan.Plan.{Plan}
+use Rattle.cells.specs.Plans.{cellMember, plainMember, planned, Knows, PlansKind}
 use Rattle.members.specs.declared.Wrote.{Wrote}
 use Rattle.members.specs.declared.Wrote.the-variants.{Done, Refused}
-use Rattle.members.specs.declared.cells.Put.the-variants.{Stored, Unfit, FloatText}
-use Rattle.members.specs.Names.{defOf, memberOf}
-use Rattle.members.specs.Cells.{Puts}
-use Rattle.members.specs.Posts.{remarkOn, Buffer, Went, Fills, Marked, anySchema, cellMember}
+use Rattle.members.specs.Posts.{remarkOn, Buffer, Went, Fills, Marked, anySchema}
 
 -- a definition's name and size
 pub def-name : (F : Bytes) (d : Def) → defOf F d .name ≡ d .name
@@ -254,3 +257,12 @@ module _ (R : Round) (n : ℕ) (p : Progress) (w : Bytes) where
 -- there is room for a cell that fits
 pub part-room : (w : Bytes) (top size off k : ℕ) → top ≤ length w → size ≤ top → off + k ≤ size → off + k ≤ length (take (top - (top - size)) (drop (top - size) w))
 part-room w top size off k h g l = omega (arith, mid-len (top - size) top w h)
+
+-- the member is written as planned
+pub as-planned : (F : Bytes) (d : Def) (m : coded.Member) (R : Round) (n : ℕ) (p : Progress) (w T : Bytes) (v : Value) (k : Kinds.Kind) (pl x : Plan) → PlansKind F d m k pl → pl ≡ x → (r : Wrote) (w' : Bytes)
+    → Fills (λ S. Knows S x) R n p w (d .size) (λ S buf. planned T F (envOf T S R) x (defOf F d) (memberOf m) v buf) r w'
+    → Fills (λ S. schemaOf F ≡ ok S) R n p w (d .size) (λ S buf. plainMember (envOf T S R) (defOf F d) (memberOf m) k v buf) r w'
+as-planned F d m R n p w T v k pl x a q r w' b =
+    let g : PlansKind F d m k x = subst (PlansKind F d m k) q a in
+    fills-as R n p w (λ S. schemaOf F ≡ ok S) (λ S. Knows S x) (d .size) (λ S buf. plainMember (envOf T S R) (defOf F d) (memberOf m) k v buf)
+    (λ S buf. planned T F (envOf T S R) x (defOf F d) (memberOf m) v buf) r w' (λ S y. (g .knows S y, λ buf s. g .is T R S y v buf s)) b

@@ -1,11 +1,5 @@
--- Laws of members and runs.
-pub mod Kinding
-pub mod Celling
+-- Laws of members.
 pub mod Looking
 pub mod Filling
 pub mod Slotting
-pub mod Choosing
-pub mod Planning
-pub mod Loops
-pub mod CellRuns
-pub mod Elements
+pub mod PointerMembers

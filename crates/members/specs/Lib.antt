@@ -1,5 +1,3 @@
--- Members and runs that lead to no structure: the code's values in the terms of the definitions, and what the contracts say.
+-- Members that lead to no structure: what a name stands for, and what the contracts say.
 pub mod Names
-pub mod Cells
 pub mod Posts
-pub mod Plans

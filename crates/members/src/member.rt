@@ -1,18 +1,18 @@
 // Members that lead to no structure. The structure's bytes so far are the top of the stack.
-use crate::Def;
 use crate::Wrote;
-use crate::cells::Cell;
-use crate::cells::Put;
-use crate::cells::put_cell;
-use crate::kinds::type_number;
-use crate::plan::Plan;
-use crate::plan::plan_of;
 use crate::say;
 use crate::slots::slot_size;
 use crate::slots::text_slot;
 use area::Progress;
 use area::Round;
 use area::used::use_enum;
+use cells::Cell;
+use cells::Put;
+use cells::defs::Def;
+use cells::kinds::type_number;
+use cells::plan::Plan;
+use cells::plan::plan_of;
+use cells::put_cell;
 use coerce::whole::has_str;
 use coerce::whole::str_of;
 use definitions::members::Member;
@@ -32,9 +32,10 @@ ghost use Rattle.layout.specs.Kinds;
 ghost use Rattle.layout.specs.Members;
 ghost use Rattle.area.specs.Area.{envOf};
 ghost use Rattle.area.specs.Posts.{Safe, Open};
-ghost use Rattle.members.specs.Names.{defOf, memberOf};
-ghost use Rattle.members.specs.Cells.{Sane, cellSize, cellBytes};
-ghost use Rattle.members.specs.Posts.{Buffer, Fills, Marked, anySchema, cellMember, plainMember};
+ghost use Rattle.cells.specs.Names.{defOf, memberOf};
+ghost use Rattle.cells.specs.Cells.{Sane, cellSize, cellBytes};
+ghost use Rattle.cells.specs.Plans.{cellMember, plainMember};
+ghost use Rattle.members.specs.Posts.{Buffer, Fills, Marked, anySchema};
 
 // Whether n bytes at the member's offset lie in the structure.
 pub fn fits(d: Def, m: Member, n: usize) -> bool

@@ -1,4 +1,4 @@
-// Texts by pointer in their slots, and what a reference and an enum's place stand for.
+// Texts by pointer in their slots.
 use crate::Wrote;
 use crate::pay;
 use area::Laid;
@@ -7,13 +7,11 @@ use area::Round;
 use area::items::lay_text;
 use numbers::words::write;
 ghost use mathlib.Core.Path.{_≡_};
-ghost use Prim.Native.Nat.{ℕ, _+_, _≤_, _<_, _^_};
+ghost use Prim.Native.Nat.{_+_, _≤_, _<_, _^_};
 ghost use lib.ListN.{length};
-ghost use Rattle.schema.specs.Psch.{entriesAt};
 ghost use Rattle.layout.specs.Members;
 ghost use Rattle.area.specs.Area.{stackAt};
 ghost use Rattle.area.specs.Posts.{Safe};
-ghost use Rattle.members.specs.Names.{entriesFrom};
 ghost use Rattle.members.specs.Posts.{Slots};
 
 // A pointer at `at`.
@@ -72,24 +70,4 @@ pub fn text_slot(
             }
         },
     }
-}
-
-// The high half of a reference.
-pub fn high_half(x: u32) -> u32
-    ensures { λ r. ⌜ (r ≡ Members.high16 x) × (r < 65536) ⌝ }
-{
-    x / 65536
-}
-
-// Where the entries of the enum at a place begin; the file's end, where that is before it.
-pub fn entries_at(schema: &[u8], place: usize) -> usize
-    requires { ⌜ place < length (now schema) ⌝ }
-    ensures { λ r. ⌜ r ≡ entriesFrom (now (schema .entry)) place ⌝ }
-    ensures { λ r. ⌜ (r < 2 ^ 63) × ((n : ℕ) → entriesAt (now (schema .entry)) n r ≡ entriesAt (now (schema .entry)) n (place + 4)) ⌝ }
-{
-    let at = place + 4;
-    if schema.len() < at {
-        return schema.len();
-    }
-    at
 }

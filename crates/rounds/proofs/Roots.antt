@@ -27,9 +27,9 @@ use Rattle.area.specs.Posts.{Safe, gives, refuses, Meets, Lays, laidIs}
 use Rattle.area.specs.declared.Laid.{Laid}
 use Rattle.area.specs.declared.Laid.the-variants as L
 use Rattle.assemble.proofs.Wiping.{bare-zeros}
-use Rattle.members.specs.declared.Def.{Def}
+use Rattle.cells.specs.declared.defs.Def.{Def}
+use Rattle.cells.specs.Names.{defOf}
 use Rattle.members.specs.declared.Wrote.the-variants as W
-use Rattle.members.specs.Names.{defOf}
 use Rattle.writers.specs.Posts.{Named, deeper, Pushes}
 use Rattle.rounds.specs.declared.run.Ran.the-variants.{Done, Refused}
 use Rattle.rounds.specs.Run.{Roomy, Runs, beginningOf}

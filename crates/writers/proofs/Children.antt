@@ -2,7 +2,7 @@
 use mathlib.Core.Path.{_≡_, refl, sym, ap, _∙_}
 use mathlib.Core.Bool.{Bool, true, false, cond, not, _&&_, _||_}
 use mathlib.Core.List.{List, _∷_}
-use Prim.Native.Nat.{ℕ, zero, suc, _*_, _≤_}
+use Prim.Native.Nat.{ℕ, zero, suc, min, _*_, _≤_}
 use native.Mathlib.Omega.{arith}
 use borrow.Author.Tests.{eqb-true, ltb-true, ltb-false}
 use lib.Dec.{ltb, eqb}
@@ -11,7 +11,7 @@ use Rattle.numbers.specs.Words.{isEmpty}
 use Rattle.value.specs.Rows.{Row, rowsFrom, childCount, firstChild, childrenOf}
 use Rattle.layout.specs.State.{Env}
 use Rattle.layout.specs.Write.{pairsOf, isArrayValue}
-use Rattle.writers.specs.Sources.{itemCount, pairCount, least}
+use Rattle.choices.specs.Sources.{itemCount, pairCount}
 
 -- the first k of n rows
 take-rows : (r n k : ℕ) → k ≤ n → take k (rowsFrom r n) ≡ rowsFrom r k
@@ -27,12 +27,18 @@ take-all r zero (suc k) h = refl
 take-all r (suc n) zero h = absurd (omega arith)
 take-all r (suc n) (suc k) h = ap (r ∷_) (take-all (suc r) n k (omega arith))
 
-pub take-least : (r n k : ℕ) → take k (rowsFrom r n) ≡ rowsFrom r (least n k)
-take-least r n k = go (ltb n k) refl
+pub take-min : (r n k : ℕ) → take k (rowsFrom r n) ≡ rowsFrom r (min n k)
+take-min r n k = go (ltb n k) refl
   where
-    go : (b : Bool) → ltb n k ≡ b → take k (rowsFrom r n) ≡ rowsFrom r (cond b n k)
-    go true e = let h = ltb-true n k e in take-all r n k (omega arith)
-    go false e = take-rows r n k (ltb-false n k e)
+    go : (b : Bool) → ltb n k ≡ b → take k (rowsFrom r n) ≡ rowsFrom r (min n k)
+    go true e =
+        let h = ltb-true n k e in
+        let i : n ≡ min n k = omega arith in
+        take-all r n k (omega arith) ∙ ap (rowsFrom r) i
+    go false e =
+        let h = ltb-false n k e in
+        let i : k ≡ min n k = omega arith in
+        take-rows r n k h ∙ ap (rowsFrom r) i
 
 -- there are none, or some
 pub rows-none : (r n : ℕ) → n ≡ 0 → isEmpty (rowsFrom r n) ≡ true

@@ -9,23 +9,24 @@ use Rattle.numbers.specs.Words.{Bytes, over}
 use Rattle.numbers.specs.Result.{mapOption}
 use Rattle.schema.specs.Defs.{Schema}
 use Rattle.definitions.specs.declared.members.Member as coded
-use Rattle.layout.specs.State.{State, M, done, ret, bind, optM, addItem}
+use Rattle.layout.specs.State.{State, M, ret, bind, optM, addItem}
 use Rattle.layout.specs.Members.{need, putCounted}
 use Rattle.layout.specs.Runs.{Run}
 use Rattle.area.specs.declared.Round.{Round}
 use Rattle.area.specs.declared.Progress.{Progress}
 use Rattle.area.specs.Area.{itemsAt, stackAt, Rep}
 use Rattle.area.specs.Posts.{Safe, Open, Meets}
-use Rattle.members.specs.declared.Def.{Def}
+use Rattle.cells.specs.declared.defs.Def.{Def}
+use Rattle.cells.specs.Names.{defOf, memberOf}
 use Rattle.members.specs.declared.Wrote.{Wrote}
 use Rattle.members.specs.declared.Wrote.the-variants.{Done, Refused}
-use Rattle.members.specs.declared.Ran.{Ran}
-use Rattle.members.specs.declared.Ran.the-variants as Rn
-use Rattle.members.specs.Names.{defOf, memberOf}
-use Rattle.members.specs.Posts.{Fills, Yields, Went, wroteIs, runBytes}
+use Rattle.members.specs.Posts.{Fills, Went, wroteIs}
 use Rattle.members.proofs.Filling.{fills-as}
-use Rattle.writers.specs.Posts.{Lodges, Lodged, Embeds, Lowered}
-use Rattle.writers.proofs.Meeting.{meets-refused, meets-given}
+use Rattle.runs.specs.declared.Ran.{Ran}
+use Rattle.runs.specs.declared.Ran.the-variants as Rn
+use Rattle.runs.specs.Posts.{Yields, runBytes}
+use Rattle.choices.specs.Posts.{Lodges, Lodged, Embeds, Lowered}
+use Rattle.choices.proofs.Meeting.{meets-refused, meets-given}
 
 -- the same under another name
 pub fills-same : {known known' : Schema → Type 0} {R : Round} {n : ℕ} {p : Progress} {w : Bytes} {size : ℕ} {f g : Schema → Bytes → M Bytes} {r : Wrote} {w' : Bytes}

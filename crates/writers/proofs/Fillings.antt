@@ -3,7 +3,7 @@ use mathlib.Core.Path.{_≡_, refl, sym, ap, _∙_}
 use mathlib.Core.Bool.{Bool, true, false, not}
 use mathlib.Core.List.{List}
 use mathlib.Core.Option.{Option}
-use Prim.Native.Nat.{ℕ, _+_, _-_, _≤_}
+use Prim.Native.Nat.{ℕ, min, _+_, _-_, _≤_}
 use native.Mathlib.Omega.{arith}
 use borrow.Author.Tests.{not-true, not-false}
 use lib.Dec.{leb}
@@ -12,7 +12,6 @@ use Rattle.numbers.specs.Words.{Bytes, over, isEmpty}
 use Rattle.value.specs.Rows.{Row, rowsFrom, childrenOf, valueRow}
 use Rattle.value.specs.Answer.{valueIs}
 use Rattle.value.specs.declared.Found.{Found}
-use Rattle.schema.specs.Defs
 use Rattle.schema.specs.Defs.{Schema}
 use Rattle.definitions.specs.declared.members.Member as coded
 use Rattle.layout.specs.Kinds
@@ -24,22 +23,24 @@ use Rattle.area.specs.declared.Round.{Round}
 use Rattle.area.specs.declared.Progress.{Progress}
 use Rattle.area.specs.Area.{itemsAt, stackAt, envOf}
 use Rattle.area.specs.Posts.{Safe, Open, Notes}
-use Rattle.members.specs.declared.Def.{Def}
+use Rattle.cells.specs.declared.defs.Def.{Def}
+use Rattle.cells.specs.Names.{defOf, memberOf}
 use Rattle.members.specs.declared.Wrote.{Wrote}
 use Rattle.members.specs.declared.Wrote.the-variants.{Done, Refused}
-use Rattle.members.specs.declared.Ran.{Ran}
-use Rattle.members.specs.declared.Ran.the-variants as Rn
-use Rattle.members.specs.Names.{defOf, memberOf}
-use Rattle.members.specs.Posts.{Fills, Yields, Buffer, remarkOn, anySchema}
-use Rattle.members.proofs.Loops.{length-rowsFrom}
+use Rattle.members.specs.Posts.{Fills, Buffer, remarkOn, anySchema}
 use Rattle.members.proofs.Filling.{stays, said}
-use Rattle.writers.specs.declared.choose.Info.{Info}
-use Rattle.writers.specs.declared.choose.Info.the-variants as I
-use Rattle.writers.specs.Sources.{infoIs, itemCount, least}
-use Rattle.writers.specs.Posts.{Of, deeper, Lodges, Embeds}
-use Rattle.writers.proofs.Meeting.{if-true, if-false, opt-none, opt-some}
-use Rattle.writers.proofs.Embedding.{fit-within, need-fits, need-leaves}
-use Rattle.writers.proofs.Children.{take-least, rows-none, rows-some, children-items}
+use Rattle.runs.specs.declared.Ran.{Ran}
+use Rattle.runs.specs.declared.Ran.the-variants as Rn
+use Rattle.runs.specs.Posts.{Yields}
+use Rattle.runs.proofs.Loops.{length-rowsFrom}
+use Rattle.choices.specs.declared.choose.Info.{Info}
+use Rattle.choices.specs.declared.choose.Info.the-variants as I
+use Rattle.choices.specs.Sources.{infoIs, itemCount}
+use Rattle.choices.specs.Posts.{Lodges, Embeds}
+use Rattle.choices.proofs.Meeting.{if-true, if-false, opt-none, opt-some}
+use Rattle.choices.proofs.Embedding.{fit-within, need-fits, need-leaves}
+use Rattle.writers.specs.Posts.{Of, deeper}
+use Rattle.writers.proofs.Children.{take-min, rows-none, rows-some, children-items}
 use Rattle.writers.proofs.Filled.{fills-same, withRun, run-refused, run-dropped, run-lodged, run-embedded, lodge-room, embed-room}
 
 module _ (T F : Bytes) (R : Round) (left : ℕ) (p : Progress) (w : Bytes) (d : Def) (m : coded.Member) (safe : Safe R (length w) p) (more : Open p) (buffer : Buffer R p (d .size)) where
@@ -182,18 +183,18 @@ module _ (T F : Bytes) (R : Round) (left : ℕ) (p : Progress) (w : Bytes) (d : 
         unfolding arrayOf
         pointed-is S buf s b = array-is S buf s ∙ if-true _ (byPointer′ x (y .a) n S buf) _ s (sym aims ∙ b)
 
-        embedded-is : (S : Schema) (buf : Bytes) (s : State) (k : ℕ) → aimed ≡ false → k ≡ least n (high16 (m .reference)) → array S buf s ≡ inline x (y .a) k S buf s
+        embedded-is : (S : Schema) (buf : Bytes) (s : State) (k : ℕ) → aimed ≡ false → k ≡ min n (high16 (m .reference)) → array S buf s ≡ inline x (y .a) k S buf s
         unfolding arrayOf
         embedded-is S buf s k b e =
             array-is S buf s ∙ if-false _ (byPointer′ x (y .a) n S buf) _ s (sym aims ∙ b)
             ∙ ap (λ (rs : List ℕ). embeddedArray (envOf T S R) (deeper T R left S) (defOf F d) (memberOf m) (memberOf x) rs buf s)
-            (take-least (y .a) n (high16 (m .reference)) ∙ ap (rowsFrom (y .a)) (sym e))
+            (take-min (y .a) n (high16 (m .reference)) ∙ ap (rowsFrom (y .a)) (sym e))
 
         -- by pointer
         pub array-pointed : (r : Wrote) (w' : Bytes) → aimed ≡ true → Fills (Of F) R (length w) p w (d .size) (byPointer′ x (y .a) n) r w' → Fills (Of F) R (length w) p w (d .size) array r w'
         array-pointed r w' b h = fills-same (λ S o. o) (λ S o buf s. pointed-is S buf s b) h
 
         -- inline
-        pub array-embedded : (k half : ℕ) (r : Wrote) (w' : Bytes) → aimed ≡ false → half ≡ high16 (m .reference) → k ≡ least n half
+        pub array-embedded : (k half : ℕ) (r : Wrote) (w' : Bytes) → aimed ≡ false → half ≡ high16 (m .reference) → k ≡ min n half
             → Fills (Of F) R (length w) p w (d .size) (inline x (y .a) k) r w' → Fills (Of F) R (length w) p w (d .size) array r w'
-        array-embedded k half r w' b e f h = fills-same (λ S o. o) (λ S o buf s. embedded-is S buf s k b (f ∙ ap (least n) e)) h
+        array-embedded k half r w' b e f h = fills-same (λ S o. o) (λ S o buf s. embedded-is S buf s k b (f ∙ ap (min n) e)) h

@@ -25,17 +25,18 @@ use Rattle.area.specs.Area.{stackAt, envOf, withTop}
 use Rattle.area.specs.Posts.{Safe, Open, Notes, Meets}
 use Rattle.area.proofs.Over.{length-over}
 use Rattle.area.proofs.Reps.{rep-shift}
-use Rattle.members.specs.declared.Def.{Def}
+use Rattle.cells.specs.declared.defs.Def.{Def}
+use Rattle.cells.specs.Names.{defOf, memberOf}
 use Rattle.members.specs.declared.Looked.{Looked}
 use Rattle.members.specs.declared.Looked.the-variants as L
 use Rattle.members.specs.declared.Wrote.{Wrote}
 use Rattle.members.specs.declared.Wrote.the-variants.{Done, Refused}
-use Rattle.members.specs.Names.{defOf, memberOf, lookedIs}
+use Rattle.members.specs.Names.{lookedIs}
 use Rattle.members.specs.Posts.{remarkOn, Buffer, Went, Fills, wroteIs}
-use Rattle.writers.specs.Posts.{Of, Named, deeper, Started, Pushed, Pushes}
 use Rattle.members.proofs.Filling.{def-size, need-yes, fills-as, said, too-long}
-use Rattle.writers.proofs.Meeting.{refused-on}
-use Rattle.writers.proofs.Choosing.{looked-name}
+use Rattle.choices.proofs.Meeting.{refused-on}
+use Rattle.choices.proofs.Choosing.{looked-name}
+use Rattle.writers.specs.Posts.{Of, Named, deeper, Started, Pushed, Pushes}
 
 -- the name of a definition that was looked up stands for it
 pub looked-named : (F : Bytes) (S : Schema) (ref : ℕ) (i : Def) → schemaOf F ≡ ok S → winning S .struct ref ≡ some (defOf F i) → Named F i S

@@ -4,7 +4,7 @@ use mathlib.Core.Bool.{Bool, true, false, cond, _||_}
 use mathlib.Core.List.{List}
 use mathlib.Core.Option.{Option, none, some}
 use mathlib.Core.Logic.{_⊎_, inl, inr}
-use Prim.Native.Nat.{ℕ, _-_}
+use Prim.Native.Nat.{ℕ}
 use native.Mathlib.Omega.{arith}
 use lib.Dec.{leb, eqb}
 use borrow.Author.Tests.{eq-eqb, ne-eqb}
@@ -27,16 +27,19 @@ use Rattle.layout.specs.Write.{isStructValue, inlineMember, pointedMember, stru
 use Rattle.area.specs.declared.Round.{Round}
 use Rattle.area.specs.declared.Progress.{Progress}
 use Rattle.area.specs.Area.{envOf}
-use Rattle.members.specs.declared.Def.{Def}
+use Rattle.cells.specs.declared.defs.Def.{Def}
+use Rattle.cells.specs.Names.{defOf, memberOf}
+use Rattle.cells.specs.Plans.{plainMember}
 use Rattle.members.specs.declared.Looked.{Looked}
 use Rattle.members.specs.declared.Looked.the-variants as L
 use Rattle.members.specs.declared.Wrote.{Wrote}
-use Rattle.members.specs.declared.Ran.{Ran}
-use Rattle.members.specs.Names.{defOf, memberOf, lookedIs}
-use Rattle.members.specs.Posts.{anySchema, Fills, Yields, plainMember, plainRun}
-use Rattle.writers.specs.Posts.{Of, Named, deeper, structRun}
+use Rattle.members.specs.Names.{lookedIs}
+use Rattle.members.specs.Posts.{anySchema, Fills}
 use Rattle.members.proofs.Filling.{def-name, fills-as}
-use Rattle.members.proofs.Elements.{yields-as}
+use Rattle.runs.specs.declared.Ran.{Ran}
+use Rattle.runs.specs.Posts.{Yields, plainRun}
+use Rattle.runs.proofs.Elements.{yields-as}
+use Rattle.writers.specs.Posts.{Of, Named, deeper, structRun}
 use Rattle.writers.proofs.Inlines.{looked-at, looked-none, looked-named}
 
 -- a kind that leads to no structure

@@ -1,11 +1,4 @@
 -- Laws of the writers.
-pub mod Nths
-pub mod Naming
-pub mod NinthRemark
-pub mod Meeting
-pub mod Choosing
-pub mod Lodging
-pub mod Embedding
 pub mod Children
 pub mod Filled
 pub mod Fillings

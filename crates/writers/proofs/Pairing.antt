@@ -2,7 +2,7 @@
 use mathlib.Core.Path.{_≡_, refl, sym, ap, subst, _∙_}
 use mathlib.Core.Bool.{Bool, true, false, not, _&&_, _||_}
 use mathlib.Core.List.{List, [], _∷_, _++_}
-use mathlib.Core.Option.{Option, none, some}
+use mathlib.Core.Option.{Option, some}
 use Prim.Native.Nat.{ℕ, zero, suc, _+_, _-_, _*_, _≤_, _<_}
 use native.Mathlib.Omega.{arith}
 use borrow.Author.Tests.{not-true, not-false, eq-eqb, ne-eqb}
@@ -27,23 +27,26 @@ use Rattle.area.specs.Area.{itemsAt, stackAt, envOf, Rep}
 use Rattle.area.specs.Posts.{Safe, Open, Notes}
 use Rattle.area.proofs.Over.{length-over, words-one}
 use Rattle.area.proofs.Reps.{rep-put}
-use Rattle.members.specs.declared.Def.{Def}
+use Rattle.cells.specs.declared.defs.Def.{Def}
+use Rattle.cells.specs.Names.{defOf, memberOf}
 use Rattle.members.specs.declared.Looked.{Looked}
 use Rattle.members.specs.declared.Looked.the-variants as L
 use Rattle.members.specs.declared.Wrote.{Wrote}
 use Rattle.members.specs.declared.Wrote.the-variants.{Done, Refused}
-use Rattle.members.specs.declared.Ran.{Ran}
-use Rattle.members.specs.declared.Ran.the-variants as Rn
-use Rattle.members.specs.Names.{defOf, memberOf, lookedIs}
-use Rattle.members.specs.Posts.{Fills, Yields, Buffer, remarkOn, anySchema}
+use Rattle.members.specs.Names.{lookedIs}
+use Rattle.members.specs.Posts.{Fills, Buffer, remarkOn, anySchema}
 use Rattle.members.proofs.Filling.{stays, said}
-use Rattle.writers.specs.Sources.{pairCount}
-use Rattle.writers.specs.Posts.{Of, Named, deeper, Lodges, structRun}
-use Rattle.writers.proofs.Meeting.{if-true, if-false, opt-none, opt-some}
-use Rattle.writers.proofs.Choosing.{looked-name}
+use Rattle.runs.specs.declared.Ran.{Ran}
+use Rattle.runs.specs.declared.Ran.the-variants as Rn
+use Rattle.runs.specs.Posts.{Yields}
+use Rattle.choices.specs.Sources.{pairCount}
+use Rattle.choices.specs.Posts.{Lodges}
+use Rattle.choices.proofs.Meeting.{if-true, if-false, opt-none, opt-some}
+use Rattle.choices.proofs.Choosing.{looked-name}
+use Rattle.choices.proofs.Lodging.{top-within}
+use Rattle.choices.proofs.Embedding.{fit-within, need-fits, need-leaves}
+use Rattle.writers.specs.Posts.{Of, Named, deeper, structRun}
 use Rattle.writers.proofs.Inlines.{looked-named}
-use Rattle.writers.proofs.Lodging.{top-within}
-use Rattle.writers.proofs.Embedding.{fit-within, need-fits, need-leaves}
 use Rattle.writers.proofs.Children.{length-pairs, pairs-empty, pairs-some, children-pairs, map-other, map-or-null}
 use Rattle.writers.proofs.Filled.{fills-same, withRun, run-refused, run-dropped, run-lodged, lodge-room}
 

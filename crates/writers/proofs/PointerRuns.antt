@@ -3,7 +3,7 @@ use mathlib.Core.Path.{_≡_, refl, sym, ap}
 use mathlib.Core.Bool.{true, false}
 use mathlib.Core.List.{_++_}
 use mathlib.Core.Option.{Option, none, some}
-use Prim.Native.Nat.{ℕ, zero, _+_, _-_, _*_, _≤_, _<_}
+use Prim.Native.Nat.{ℕ, _+_, _*_, _≤_, _<_}
 use native.Mathlib.Omega.{arith}
 use borrow.Author.Tests.{eq-eqb, ne-eqb}
 use lib.Dec.{eqb}
@@ -22,13 +22,14 @@ use Rattle.area.specs.declared.Progress.{Progress}
 use Rattle.area.specs.Area.{Rep, withTop, envOf}
 use Rattle.area.specs.Posts.{Safe, Open, Grown, gives, refuses, Meets}
 use Rattle.area.proofs.Reps.{rep-push, rep-put}
-use Rattle.members.specs.declared.Def.{Def}
-use Rattle.members.specs.Names.{defOf, memberOf}
+use Rattle.cells.specs.declared.defs.Def.{Def}
+use Rattle.cells.specs.Names.{defOf, memberOf}
 use Rattle.members.specs.declared.Wrote.{Wrote}
 use Rattle.members.specs.declared.Wrote.the-variants.{Refused}
-use Rattle.members.specs.declared.Ran.the-variants as Rn
-use Rattle.members.specs.Posts.{paidIs, Yields}
-use Rattle.members.proofs.Loops.{length-rowsFrom, row-ith, Paid, Ready, Made, Halts, Running, runCost, run-begin, run-room, run-turn, run-kept, run-stopped, run-too-dear}
+use Rattle.members.specs.Posts.{paidIs}
+use Rattle.runs.specs.declared.Ran.the-variants as Rn
+use Rattle.runs.specs.Posts.{Yields}
+use Rattle.runs.proofs.Loops.{length-rowsFrom, row-ith, Paid, Ready, Made, Halts, Running, runCost, run-begin, run-room, run-turn, run-kept, run-stopped, run-too-dear}
 use Rattle.writers.specs.declared.write.Pointed.the-variants as P
 use Rattle.writers.specs.Posts.{Of, deeper, Points}
 

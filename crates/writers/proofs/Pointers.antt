@@ -29,19 +29,20 @@ use Rattle.area.specs.Area.{itemsAt, stackAt, envOf}
 use Rattle.area.specs.Posts.{Safe, Open, Grown, Notes, gives, refuses, Meets, laidIs, Larger, Lays}
 use Rattle.area.proofs.Over.{length-over}
 use Rattle.area.proofs.Reps.{rep-put}
-use Rattle.members.specs.declared.Def.{Def}
+use Rattle.cells.specs.declared.defs.Def.{Def}
+use Rattle.cells.specs.Names.{defOf, memberOf}
 use Rattle.members.specs.declared.Looked.{Looked}
 use Rattle.members.specs.declared.Looked.the-variants as L
 use Rattle.members.specs.declared.Wrote.{Wrote}
 use Rattle.members.specs.declared.Wrote.the-variants.{Done, Refused}
-use Rattle.members.specs.Names.{defOf, memberOf, lookedIs}
+use Rattle.members.specs.Names.{lookedIs}
 use Rattle.members.specs.Posts.{remarkOn, Buffer, Fills, wroteIs}
+use Rattle.members.proofs.Filling.{def-size, went-noted, fills-as, stays, too-long}
+use Rattle.choices.specs.Sources.{Owned}
+use Rattle.choices.proofs.Meeting.{refused-on}
 use Rattle.writers.specs.declared.write.Pointed.{Pointed}
 use Rattle.writers.specs.declared.write.Pointed.the-variants as P
-use Rattle.writers.specs.Sources.{Owned}
 use Rattle.writers.specs.Posts.{Of, Named, deeper, Started, Pushed, Pushes, pointedIs, Points}
-use Rattle.members.proofs.Filling.{def-size, went-noted, fills-as, stays, too-long}
-use Rattle.writers.proofs.Meeting.{refused-on}
 use Rattle.writers.proofs.Inlines.{pushed-done}
 
 -- a structure by pointer without its definition, and with it

@@ -3,13 +3,12 @@ use mathlib.Core.Path.{_≡_, refl, sym, ap}
 use mathlib.Core.Bool.{Bool, true, false, not, _||_}
 use mathlib.Core.List.{_++_}
 use mathlib.Core.Option.{Option, none, some}
-use Prim.Native.Nat.{ℕ, zero, suc, _+_, _-_, _*_, _≤_, _<_}
+use Prim.Native.Nat.{ℕ, zero, suc, _+_, _*_, _≤_, _<_}
 use native.Mathlib.Omega.{arith}
 use lib.Dec.{eqb}
 use lib.ListN.{length}
 use Rattle.numbers.specs.Words.{Bytes}
 use Rattle.value.specs.Rows.{row, rowsFrom, Fields, fieldsOf, Struct, Null}
-use Rattle.schema.specs.Defs
 use Rattle.schema.specs.Defs.{Schema}
 use Rattle.definitions.specs.declared.members.Member as coded
 use Rattle.layout.specs.State.{State, M, Out, done, stop, after, bind, ret, ifM, remark, withRemark}
@@ -20,16 +19,18 @@ use Rattle.area.specs.declared.Round.{Round}
 use Rattle.area.specs.declared.Progress.{Progress}
 use Rattle.area.specs.Area.{Rep, envOf}
 use Rattle.area.specs.Posts.{Safe, Open, Grown, gives, refuses, Meets}
-use Rattle.members.specs.declared.Def.{Def}
+use Rattle.cells.specs.declared.defs.Def.{Def}
+use Rattle.cells.specs.Names.{defOf, memberOf}
 use Rattle.members.specs.declared.Wrote.{Wrote}
 use Rattle.members.specs.declared.Wrote.the-variants.{Done, Refused}
-use Rattle.members.specs.declared.Ran.{Ran}
-use Rattle.members.specs.declared.Ran.the-variants as Rn
-use Rattle.members.specs.Names.{defOf, memberOf}
-use Rattle.members.specs.Posts.{remarkOn, paidIs, Yields}
+use Rattle.members.specs.Posts.{remarkOn, paidIs}
 use Rattle.members.proofs.Filling.{went-noted}
-use Rattle.members.proofs.Loops.{Ith, length-rowsFrom, row-ith, Paid, Made, Halts, Running, runCost, run-begin, run-turn, run-kept, run-stopped, run-too-dear}
-use Rattle.writers.specs.Posts.{Named, deeper, Started, Pushes, structRun, elementRow, elementFields, needsNote, Noted}
+use Rattle.runs.specs.declared.Ran.{Ran}
+use Rattle.runs.specs.declared.Ran.the-variants as Rn
+use Rattle.runs.specs.Posts.{Yields}
+use Rattle.runs.proofs.Loops.{Ith, length-rowsFrom, row-ith, Paid, Made, Halts, Running, runCost, run-begin, run-turn, run-kept, run-stopped, run-too-dear}
+use Rattle.choices.specs.Posts.{elementRow, elementFields, needsNote, Noted}
+use Rattle.writers.specs.Posts.{Named, deeper, Started, Pushes, structRun}
 use Rattle.writers.proofs.Children.{length-pairs}
 
 -- the pairs of a map, by number

@@ -13,7 +13,6 @@ use Rattle.numbers.specs.Result.{isSome, nth}
 use Rattle.value.specs.Rows.{Value, Fields, fieldNamed}
 use Rattle.value.specs.Answer.{foundIs, valueIs}
 use Rattle.value.specs.declared.Found.{Found}
-use Rattle.schema.specs.Defs
 use Rattle.schema.specs.Defs.{Schema, winning}
 use Rattle.definitions.specs.declared.members.Member as coded
 use Rattle.layout.specs.State.{State, withCharge}
@@ -24,13 +23,13 @@ use Rattle.area.specs.declared.Progress.{Progress}
 use Rattle.area.specs.Area.{Rep, stackAt, withPaid, withTop, startedIn, envOf}
 use Rattle.area.specs.Posts.{Safe, Open, Grown, Marks}
 use Rattle.area.proofs.Reps.{rep-push}
-use Rattle.members.specs.declared.Def.{Def}
+use Rattle.cells.specs.declared.defs.Def.{Def}
+use Rattle.cells.specs.Names.{defOf, memberOf}
 use Rattle.members.specs.declared.Wrote.the-variants.{Done, Refused}
-use Rattle.members.specs.Names.{defOf, memberOf}
 use Rattle.members.specs.Posts.{paidIs, Fills}
 use Rattle.members.proofs.Slotting.{paid-yes, paid-no, rep-paid, safe-paid}
+use Rattle.choices.proofs.Nths.{count-members}
 use Rattle.writers.specs.Posts.{Of, Named, deeper, Pushes}
-use Rattle.writers.proofs.Nths.{count-members}
 use Rattle.writers.proofs.Starting.{Going, begin, skip, turn, turn-refused, finish, started-is, started-dear, too-deep, one-deeper}
 
 -- the numbers are in order after paying

@@ -1,3 +1,2 @@
--- The writers of structures: where values come from, and what the contracts say.
-pub mod Sources
+-- The writers of structures: what the contracts say.
 pub mod Posts

@@ -1,30 +1,30 @@
 // The writers: a structure leads to its members and a member to further structures, inline, by pointer, in runs and in map pairs.
-use crate::choose::Info;
-use crate::choose::array_info;
-use crate::choose::by_pointer;
-use crate::choose::embed;
-use crate::choose::is_array_value;
-use crate::choose::is_struct_value;
-use crate::choose::item_count;
-use crate::choose::lay_run;
-use crate::choose::least;
-use crate::choose::own_type;
-use crate::source::Source;
-use crate::source::source_of;
-use crate::source::value_of;
 use crate::write::map::write_map;
-use crate::write::runs::element_run;
+use crate::write::run::element_run;
 use area::Laid;
 use area::Progress;
 use area::Round;
 use area::items::lay;
 use area::stack::shift;
 use area::used::use_struct;
+use cells::defs::Def;
+use cells::defs::high_half;
+use choices::choose::Info;
+use choices::choose::array_info;
+use choices::choose::by_pointer;
+use choices::choose::embed;
+use choices::choose::is_array_value;
+use choices::choose::is_struct_value;
+use choices::choose::item_count;
+use choices::choose::lay_run;
+use choices::choose::min;
+use choices::choose::own_type;
+use choices::source::Source;
+use choices::source::source_of;
+use choices::source::value_of;
 use definitions::members::Member;
 use definitions::members::read_member;
-use members::Def;
 use members::Looked;
-use members::Ran;
 use members::Wrote;
 use members::look_up;
 use members::member::fits;
@@ -32,8 +32,8 @@ use members::member::write_plain;
 use members::member::wrong;
 use members::pay;
 use members::say;
-use members::slots::high_half;
 use members::slots::put_pointer;
+use runs::Ran;
 use value::Found;
 use value::read_row;
 use value::value_row;
@@ -46,13 +46,13 @@ ghost use Rattle.layout.specs.Runs;
 ghost use Rattle.layout.specs.Write;
 ghost use Rattle.area.specs.Area.{envOf};
 ghost use Rattle.area.specs.Posts.{Safe, Open};
-ghost use Rattle.members.specs.Names.{defOf, memberOf};
+ghost use Rattle.cells.specs.Names.{defOf, memberOf};
 ghost use Rattle.members.specs.Posts.{Buffer, Fills};
-ghost use Rattle.writers.specs.Sources.{fieldsIs};
+ghost use Rattle.choices.specs.Sources.{fieldsIs};
 ghost use Rattle.writers.specs.Posts.{Of, Named, deeper, Pushes, Points};
 
 mod map;
-mod runs;
+mod run;
 
 // A structure's pointer; none (remark 4); or a refusal.
 pub enum Pointed {
@@ -307,7 +307,7 @@ fn write_array(
             if by_pointer(m.subtype, x.subtype) {
                 return write_laid(sheet, schema, work, round, left, p, d, m, x, row.a, n);
             }
-            let k = least(n, high_half(m.reference));
+            let k = min(n, high_half(m.reference));
             write_embedded(sheet, schema, work, round, left, p, d, m, x, row.a, k)
         }
     }

@@ -1,20 +1,20 @@
 // Maps: their mark, and the run of their pairs.
-use crate::choose::lay_run;
-use crate::choose::pair_count;
-use crate::write::runs::struct_run;
+use crate::write::run::struct_run;
 use area::Progress;
 use area::Round;
+use cells::defs::Def;
+use cells::defs::reference_at;
+use choices::choose::lay_run;
+use choices::choose::pair_count;
 use definitions::members::Member;
-use members::Def;
 use members::Looked;
-use members::Ran;
 use members::Wrote;
 use members::look_up;
 use members::member::fits;
 use members::member::wrong;
-use members::reference_at;
 use members::say;
 use members::slots::put_pointer;
+use runs::Ran;
 use value::Found;
 use value::value_row;
 ghost use Prim.Native.Nat.{_+_, _*_, _≤_, _<_};
@@ -25,7 +25,7 @@ ghost use Rattle.layout.specs.Members;
 ghost use Rattle.layout.specs.Write;
 ghost use Rattle.area.specs.Area.{envOf};
 ghost use Rattle.area.specs.Posts.{Safe, Open};
-ghost use Rattle.members.specs.Names.{defOf, memberOf};
+ghost use Rattle.cells.specs.Names.{defOf, memberOf};
 ghost use Rattle.members.specs.Posts.{Buffer, Fills};
 ghost use Rattle.writers.specs.Posts.{Of, deeper};
 

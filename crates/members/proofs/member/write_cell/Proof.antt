@@ -5,7 +5,7 @@ use native.Mathlib.Omega.{arith}
 use lib.ListN.{length}
 use borrow.Author.Tests.{not-true, not-false, leb-true}
 use Rattle.value.specs.Answer.{valueIs}
-use Rattle.members.specs.Cells.{cellBytes, cellSize}
+use Rattle.cells.specs.Cells.{cellBytes, cellSize}
 use Rattle.members.proofs.Filling.{cell-long, cell-stored, cell-wrong, cell-refused, part-room}
 use borrow.Author.Needs.{needs}
 use Rattle.members.proofs.member.write_cell.Statement.{statement}

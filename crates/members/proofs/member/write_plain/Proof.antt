@@ -4,10 +4,10 @@ use lib.ListN.{length}
 use borrow.Author.Needs.{needs}
 use Rattle.value.specs.Answer.{valueIs}
 use Rattle.layout.specs.Kinds
-use Rattle.members.specs.declared.plan.Plan.the-variants as P
-use Rattle.members.specs.Plans.{InOrder, Knows}
+use Rattle.cells.specs.declared.plan.Plan.the-variants as P
+use Rattle.cells.specs.Plans.{InOrder, Knows}
 use Rattle.members.proofs.Filling.{stays, said}
-use Rattle.members.proofs.Planning.{as-planned}
+use Rattle.members.proofs.Filling.{as-planned}
 use Rattle.members.proofs.member.write_plain.Statement.{statement}
 use Rattle.members.proofs.member.write_plain.Tie as tie
 

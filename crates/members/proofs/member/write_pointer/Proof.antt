@@ -5,7 +5,7 @@ use native.Mathlib.Omega.{arith}
 use lib.ListN.{length}
 use borrow.Author.Tests.{not-true, not-false, leb-true}
 use Rattle.value.specs.Answer.{valueIs}
-use Rattle.members.proofs.Choosing.{text-short, pointer-long, pointer-wrong, pointer-slot}
+use Rattle.members.proofs.PointerMembers.{text-short, pointer-long, pointer-wrong, pointer-slot}
 use borrow.Author.Needs.{needs}
 use Rattle.members.proofs.member.write_pointer.Statement.{statement}
 use Rattle.members.proofs.member.write_pointer.Tie as tie

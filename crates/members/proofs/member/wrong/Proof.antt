@@ -1,6 +1,6 @@
 -- `members::member::wrong` meets its contract. Assumes nothing.
 use lib.ListN.{length}
-use Rattle.members.specs.Names.{defOf, memberOf}
+use Rattle.cells.specs.Names.{defOf, memberOf}
 use Rattle.members.specs.Posts.{anySchema}
 use Rattle.members.proofs.Filling.{wrong-missing, wrong-value}
 use borrow.Author.Needs.{needs}

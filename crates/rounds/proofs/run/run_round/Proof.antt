@@ -1,5 +1,5 @@
 use Rattle.rounds.proofs.Roots.{begin-safe, root-def, root-refused, item-refused, item-laid}
-use Rattle.members.specs.declared.Def.{Def}
+use Rattle.cells.specs.declared.defs.Def.{Def}
 use Rattle.schema.specs.Defs.{Schema}
 use lib.ListN.{length}
 use native.Mathlib.Omega.{arith}

@@ -1,8 +1,0 @@
--- `members::runs::run_cost` meets its contract. Assumes nothing.
-use borrow.Author.Needs.{needs}
-use Rattle.members.proofs.Loops.{product-small}
-use Rattle.members.proofs.runs.run_cost.Statement.{statement}
-use Rattle.members.proofs.runs.run_cost.Tie as tie
-
-pub run-cost-spec : {M : Type 1} → statement M
-run-cost-spec = tie.close (tie.spec (λ c. record { fits = product-small (c .args .stride) (c .args .n) (c .fits .stride .fits) (c .fits .n .fits) .0 }) (λ c. record { fits = product-small (c .args .stride) (c .args .n) (c .fits .stride .fits) (c .fits .n .fits) .1 }) (λ c. search needs))

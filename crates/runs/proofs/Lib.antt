@@ -1,0 +1,4 @@
+-- Laws of runs.
+pub mod Loops
+pub mod CellRuns
+pub mod Elements

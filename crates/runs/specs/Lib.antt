@@ -1,0 +1,2 @@
+-- Runs whose elements lead to no structure: what the contracts say.
+pub mod Posts
