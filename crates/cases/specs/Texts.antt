@@ -11,7 +11,7 @@ use Rattle.conversions.specs.Trunc.{i64Of}
 use Rattle.texts.specs.Text.{trimmed, parts}
 use Rattle.texts.specs.Float.{parsesFloat}
 use Rattle.coerce.specs.Numbers.{Fit, fits, unfit, floatText, intText}
-use Rattle.coerce.specs.Names.{hashText}
+use Rattle.names.specs.Names.{hashText}
 use Rattle.pso_laws.specs.Eval
 
 -- whether it is a float, the whole number, the hash, the number of parts

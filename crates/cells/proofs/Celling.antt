@@ -13,8 +13,9 @@ use Rattle.conversions.specs.Answer.{wordIs}
 use Rattle.conversions.specs.declared.parse.Word.{Word}
 use Rattle.value.specs.Rows.{Row}
 use Rattle.coerce.specs.Numbers.{Fit, fits, unfit, floatText, mapFit, fitOr, intOf, floatOf, vecOf}
-use Rattle.coerce.specs.Names.{hashOf, enumValue, flagsBits}
-use Rattle.coerce.specs.Answer.{intIs, bitsIs, vecIs, foundBits, nothing}
+use Rattle.names.specs.Names.{hashOf, enumValue, flagsBits}
+use Rattle.coerce.specs.Answer.{intIs, bitsIs, vecIs, nothing}
+use Rattle.names.specs.Answer.{foundBits}
 use Rattle.coerce.specs.declared.vector.Vector.{Vector}
 use Rattle.coerce.specs.declared.whole.Int.{Int}
 use Rattle.coerce.specs.declared.whole.Bits.{Bits}

@@ -10,7 +10,7 @@ use Rattle.numbers.specs.Words.{Bytes, bytesOf, over, number, readAt}
 use Rattle.numbers.specs.Result.{isSome, mapOption}
 use Rattle.value.specs.Rows.{Value, Row, valueRow}
 use Rattle.coerce.specs.Numbers.{Fit, fits, unfit, floatText, mapFit, fitOr, strOf}
-use Rattle.coerce.specs.Names.{Entries, hashOf, enumValue, flagsBits}
+use Rattle.names.specs.Names.{Entries, hashOf, enumValue, flagsBits}
 use Rattle.schema.specs.Defs
 use Rattle.schema.specs.Defs.{Schema, StructDef, winning}
 use Rattle.schema.specs.Psch.{entriesAt}

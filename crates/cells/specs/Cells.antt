@@ -7,7 +7,7 @@ use Rattle.numbers.specs.Words.{Bytes, bytesOf, words, over, padded}
 use Rattle.numbers.specs.Result.{mapOption}
 use Rattle.value.specs.Rows.{Row, row}
 use Rattle.coerce.specs.Numbers.{Fit, fits, unfit, floatText, mapFit, fitOr, intOf, floatOf, vecOf, strOf}
-use Rattle.coerce.specs.Names.{hashOf, enumValue, flagsBits}
+use Rattle.names.specs.Names.{hashOf, enumValue, flagsBits}
 use Rattle.coerce.specs.Answer.{vecIs}
 use Rattle.coerce.specs.declared.vector.Vector.{Vector}
 use Rattle.coerce.specs.declared.whole.Int.{Int}

@@ -6,7 +6,7 @@ use Rattle.numbers.specs.Words.{Bytes, over}
 use Rattle.numbers.specs.Result.{isSome, ok}
 use Rattle.value.specs.Rows.{Value, Row}
 use Rattle.coerce.specs.Numbers.{Fit}
-use Rattle.coerce.specs.Names.{enumValue, flagsBits}
+use Rattle.names.specs.Names.{enumValue, flagsBits}
 use Rattle.schema.specs.Defs
 use Rattle.schema.specs.Defs.{Schema, StructDef, winning}
 use Rattle.definitions.specs.declared.members.Member as coded

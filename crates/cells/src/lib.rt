@@ -2,10 +2,10 @@
 // decided before anything is written.
 use area::write_four;
 use area::write_two;
-use coerce::flags::flags_bits;
-use coerce::names::enum_value;
-use coerce::names::found_bits;
-use coerce::names::hash_of;
+use names::flags::flags_bits;
+use names::enums::enum_value;
+use names::enums::found_bits;
+use names::hashes::hash_of;
 use coerce::vector::Vector;
 use coerce::vector::vec_of;
 use coerce::whole::Bits;

@@ -1,9 +1,9 @@
 // Replays recorded answers of the reference: standard input has the entries of an enum, then rows, each its length, its answers,
 // and the sheet that they were given for (differential/leaves/run record). A line for each coercion says how many answers agree.
 ghost use Prim.Native.Nat.{_≤_, _<_};
-use coerce::flags::flags_bits;
-use coerce::names::enum_value;
-use coerce::names::hash_of;
+use names::flags::flags_bits;
+use names::enums::enum_value;
+use names::hashes::hash_of;
 use coerce::vector::Vector;
 use coerce::vector::vec_of;
 use coerce::whole::Bits;

@@ -10,8 +10,8 @@ use Rattle.numbers.specs.Words.{Bytes, over, bytesOf}
 use Rattle.numbers.specs.Result.{isSome, mapOption, orValue}
 use Rattle.value.specs.Rows.{Value}
 use Rattle.coerce.specs.Numbers.{Fit, fits, unfit, floatText}
-use Rattle.coerce.specs.Names.{Entries}
-use Rattle.coerce.proofs.Mono.{Below}
+use Rattle.names.specs.Names.{Entries}
+use Rattle.names.proofs.Mono.{Below}
 use Rattle.schema.specs.Defs.{StructDef, EnumDef, Member, Lookup}
 use Rattle.layout.specs.State.{Core, State, Env, Out, done, stop, M, after, bind, ret, ifM, optM, fitM, remark, pay, contains, useEnum}
 use Rattle.layout.specs.Kinds

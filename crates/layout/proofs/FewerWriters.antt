@@ -10,7 +10,7 @@ use lib.ListN.{length}
 use Rattle.numbers.specs.Words.{Bytes}
 use Rattle.numbers.specs.Result.{isSome}
 use Rattle.value.specs.Rows.{Value, Row, Fields, fieldsOf}
-use Rattle.coerce.proofs.Mono.{enum-below, flags-below}
+use Rattle.names.proofs.Mono.{enum-below, flags-below}
 use Rattle.schema.specs.Defs.{StructDef, Member, Lookup}
 use Rattle.layout.specs.State.{Core, State, Env, M, bind, ret, ifM, optM, contains, addItem}
 use Rattle.layout.specs.Kinds

@@ -13,7 +13,7 @@ use Rattle.numbers.specs.Words.{Bytes}
 use Rattle.numbers.specs.Result.{isSome}
 use Rattle.value.specs.Rows.{Value, Row, Fields}
 use Rattle.coerce.specs.Numbers.{Fit}
-use Rattle.coerce.specs.Names.{Entries}
+use Rattle.names.specs.Names.{Entries}
 use Rattle.schema.specs.Defs.{StructDef, Member}
 use Rattle.layout.specs.State.{Env, M, Remark, fail, fitM, remark, pay, useStruct, useEnum, addItem}
 use Rattle.layout.specs.Kinds

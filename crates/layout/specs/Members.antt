@@ -10,7 +10,7 @@ use Rattle.numbers.specs.Words.{Bytes, bytesOf, over, isEmpty}
 use Rattle.numbers.specs.Result.{isSome, mapOption, orValue, nth}
 use Rattle.value.specs.Rows.{Value, Row, valueRow}
 use Rattle.coerce.specs.Numbers.{Fit, strOf}
-use Rattle.coerce.specs.Names.{Entries, hashOf, enumValue, flagsBits}
+use Rattle.names.specs.Names.{Entries, hashOf, enumValue, flagsBits}
 use Rattle.schema.specs.Defs.{Lookup, StructDef, Member}
 use Rattle.layout.specs.State.{Env, M, bind, ret, ifM, optM, fitM, remark, pay, useEnum, addItem}
 use Rattle.layout.specs.Kinds.{Scalar, sizeOf, scalarBytes, typeNumber}

@@ -10,7 +10,7 @@ use Rattle.numbers.specs.Words.{Bytes, bytesOf, padded, zeros}
 use Rattle.numbers.specs.Result.{isSome, orValue, mapOption}
 use Rattle.value.specs.Rows.{Row, row, Fields, fieldsOf, Struct, Null}
 use Rattle.coerce.specs.Numbers.{strOf}
-use Rattle.coerce.specs.Names.{hashOf, enumValue}
+use Rattle.names.specs.Names.{hashOf, enumValue}
 use Rattle.schema.specs.Defs.{StructDef, Member}
 use Rattle.layout.specs.State.{Env, M, bind, ret, ifM, optM, fitM, pay, addItem}
 use Rattle.layout.specs.Kinds

@@ -18,7 +18,7 @@ use Rattle.conversions.specs.declared.parse.Word.the-variants as D
 use Rattle.value.specs.Rows
 use Rattle.schema.specs.Psch.{entriesAt}
 use Rattle.coerce.specs.Numbers.{Fit, fits, unfit, floatText, strOf}
-use Rattle.coerce.specs.Names.{enumValue, flagsBits}
+use Rattle.names.specs.Names.{enumValue, flagsBits}
 use Rattle.coerce.specs.declared.whole.Int.{Int}
 use Rattle.coerce.specs.declared.whole.Int.the-variants as I
 use Rattle.coerce.specs.declared.whole.Bits.{Bits}

@@ -14,7 +14,7 @@ use Rattle.numbers.specs.Result.{ok, isSome, mapOption}
 use Rattle.numbers.proofs.Bytes.{length-bytes}
 use Rattle.value.specs.Rows.{row}
 use Rattle.coerce.specs.Numbers.{Fit, fits, unfit, floatText, mapFit, fitOr, strOf}
-use Rattle.coerce.specs.Names.{hashOf, enumValue}
+use Rattle.names.specs.Names.{hashOf, enumValue}
 use Rattle.schema.specs.Defs
 use Rattle.schema.specs.Defs.{Schema, StructDef, winning}
 use Rattle.schema.specs.Psch.{schemaOf, entriesAt, enumHere}

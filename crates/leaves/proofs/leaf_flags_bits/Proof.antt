@@ -5,7 +5,7 @@ use borrow.Author.Needs.{needs}
 use borrow.Author.Tests.{lt-ltb, le-ltb}
 use Rattle.schema.specs.Psch.{entriesAt}
 use Rattle.coerce.specs.Answer.{bitsIs}
-use Rattle.coerce.specs.Names.{flagsBits}
+use Rattle.names.specs.Names.{flagsBits}
 use Rattle.value.specs.Rows.{Row}
 use Rattle.leaves.specs.Codes
 use Rattle.leaves.proofs.leaf_flags_bits.Statement.{statement}

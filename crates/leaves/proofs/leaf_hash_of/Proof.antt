@@ -2,7 +2,7 @@
 use mathlib.Core.Path.{ap, _∙_}
 use borrow.Author.Needs.{needs}
 use Rattle.conversions.specs.Answer.{wordIs}
-use Rattle.coerce.specs.Names.{hashOf}
+use Rattle.names.specs.Names.{hashOf}
 use Rattle.value.specs.Rows.{Row}
 use Rattle.leaves.specs.Codes
 use Rattle.leaves.proofs.leaf_hash_of.Statement.{statement}
