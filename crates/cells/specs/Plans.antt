@@ -1,23 +1,23 @@
--- What is planned for a member that leads to no structure.
+-- What a member that leads to no structure is, and what is planned for it.
 use Prim.Native.Nat.{ℕ, _^_, _<_}
 use mathlib.Core.Path.{_≡_}
 use mathlib.Core.Bool.{Bool, true, false, cond}
 use Rattle.numbers.specs.Words.{Bytes, over}
-use Rattle.numbers.specs.Result.{isSome, ok}
+use Rattle.numbers.specs.Result.{ok, isSome}
 use Rattle.value.specs.Rows.{Value, Row}
 use Rattle.coerce.specs.Numbers.{Fit}
 use Rattle.names.specs.Names.{enumValue, flagsBits}
 use Rattle.schema.specs.Defs
 use Rattle.schema.specs.Defs.{Schema, StructDef, winning}
+use Rattle.schema.specs.Psch.{schemaOf}
 use Rattle.definitions.specs.declared.members.Member as coded
-use Rattle.layout.specs.State.{Remark, State, Env, M, bind, ret, ifM, fitM, useEnum}
+use Rattle.layout.specs.State.{State, Env, M, bind, ret, ifM, fitM, useEnum}
 use Rattle.layout.specs.Kinds as Kinds
+use Rattle.layout.specs.Kinds.{Scalar, Kind, sizeOf}
 use Rattle.layout.specs.Members as members
+use Rattle.layout.specs.Members.{high16, leaves, pointerMember}
 use Rattle.area.specs.declared.Round.{Round}
 use Rattle.area.specs.Area.{envOf}
-use Rattle.schema.specs.Psch.{schemaOf}
-use Rattle.layout.specs.Kinds.{Scalar, Kind, sizeOf}
-use Rattle.layout.specs.Members.{high16, leaves, pointerMember}
 use Rattle.cells.specs.declared.defs.Def.{Def}
 use Rattle.cells.specs.declared.Cell.{Cell}
 use Rattle.cells.specs.declared.Cell.the-variants as C

@@ -1,12 +1,12 @@
 -- Members that are texts by pointer. No line here names a place of the code. Assumes nothing.
 use mathlib.Core.Path.{_≡_, refl, sym, ap, subst, _∙_}
 use mathlib.Core.Bool.{Bool, true, false, cond, _||_, _&&_, false≢true}
-use mathlib.Core.List.{[], _∷_, _++_}
+use mathlib.Core.List.{[], _++_}
 use mathlib.Core.Option.{Option, none, some}
-use Prim.Native.Nat.{ℕ, zero, suc, _+_, _-_, _^_, _≤_, _<_}
+use Prim.Native.Nat.{ℕ, _+_, _-_, _^_, _≤_, _<_}
 use native.Mathlib.Omega.{arith}
 use lib.Dec.{leb, eqb}
-use lib.ListN.{length, take, drop, length-append}
+use lib.ListN.{length, drop, length-append}
 use borrow.Author.Tests.{leb-true}
 use Rattle.numbers.specs.Words.{Bytes}
 use Rattle.numbers.specs.Result.{isSome, orValue}
@@ -24,6 +24,7 @@ use Rattle.area.specs.Area.{Rep, envOf}
 use Rattle.area.specs.Posts.{Safe, Open, Notes, Meets}
 use Rattle.cells.specs.declared.defs.Def.{Def}
 use Rattle.cells.specs.Names.{defOf, memberOf}
+use Rattle.cells.proofs.Celling.{take-fits}
 use Rattle.members.specs.declared.Wrote.{Wrote}
 use Rattle.members.specs.declared.Wrote.the-variants.{Done, Refused}
 use Rattle.members.specs.Posts.{remarkOn, Buffer, Went, Fills, Slots, wroteIs, anySchema}
@@ -38,18 +39,13 @@ is-some : {A : Type 0} (o : Option A) (d : A) → isSome o ≡ true → o ≡ so
 is-some (some a) d e = refl
 is-some none d e = absurd (false≢true e)
 
-take-short : (k : ℕ) (l : Bytes) → length (take k l) ≤ k
-take-short zero l = omega arith
-take-short (suc k) [] = omega arith
-take-short (suc k) (x ∷ l) = omega (arith, take-short k l)
-
 -- a row's text is no longer than its number says
 pub text-short : (T : Bytes) (v : Row) (t : Bytes) → v .b < 2 ^ 32 → t ≡ orValue (strOf T v) nothing → length t < 2 ^ 40
 unfolding strOf textOf
 text-short T v t h e = rw e (go (eqb (v .kind) 15) (eqb (v .kind) 0 || (eqb (v .kind) 14 && eqb (v .a) 0)))
   where
     go : (a b : Bool) → length (orValue (cond a (some (textOf T v)) (cond b (some []) none)) nothing) < 2 ^ 40
-    go true b = omega (arith, take-short (v .b) (drop (v .a) (textArea T)))
+    go true b = omega (arith, take-fits (v .b) (drop (v .a) (textArea T)))
     go false true = omega arith
     go false false = omega arith
 

@@ -15,7 +15,6 @@ use Rattle.area.specs.declared.Round.{Round}
 use Rattle.area.specs.declared.Progress.{Progress}
 use Rattle.area.specs.Area.{Rep, withTop}
 use Rattle.area.specs.Posts.{Safe, Grown, Ans, gives, refuses, Meets}
-use Rattle.members.specs.declared.Wrote.the-variants.{Refused}
 use Rattle.runs.specs.declared.Ran.{Ran}
 use Rattle.runs.specs.declared.Ran.the-variants as Rn
 
