@@ -31,12 +31,14 @@ use Rattle.area.proofs.Names.{names-stand}
 use Rattle.area.proofs.Over.{over-mid, over-part, over-seq, length-over}
 use Rattle.area.proofs.Spots.{length-rowsOf}
 use Rattle.assemble.specs.Map.{Whole, placesOf}
-use Rattle.assemble.specs.Used.{recordsFor, sizeOf, Counts}
-use Rattle.assemble.specs.Packed.{usedRecords, AllStored, Holds, tableAt}
-use Rattle.assemble.proofs.Maps.{over-none, count-places}
+use Rattle.psch.specs.Used.{recordsFor, sizeOf, Counts}
+use Rattle.assemble.specs.Packed.{Holds, tableAt}
+use Rattle.psch.specs.Used.{usedRecords, AllStored}
+use Rattle.assemble.proofs.Maps.{count-places}
+use Rattle.psch.proofs.Sections.{over-none}
 use Rattle.assemble.proofs.Heads.{stands-behind}
-use Rattle.assemble.proofs.Listing.{count-records}
-use Rattle.assemble.proofs.Schemas.{structRecords, enumRecords, used-size}
+use Rattle.psch.proofs.Listing.{count-records}
+use Rattle.psch.proofs.Schemas.{structRecords, enumRecords, used-size}
 use Rattle.assemble.proofs.Holding.{each, used-records, structs-stored, enums-stored}
 
 -- a length that was counted so far judges 13 as the file's length does

@@ -18,8 +18,8 @@ use Rattle.definitions.specs.declared.lookup.Found.the-variants.{At, Nothing}
 use Rattle.definitions.proofs.Finds.{winning-struct, winning-enum}
 use Rattle.layout.specs.State.{Core, contains}
 use Rattle.layout.specs.Assemble.{structBytes, enumBytes, Records, recordsOf, found, consOption, usedOf}
-use Rattle.assemble.specs.Used.{kindOf, definitionAt, bodyOf, recordsFor, Lies, Stored}
-use Rattle.assemble.proofs.Lying.{found-lies}
+use Rattle.psch.specs.Used.{kindOf, definitionAt, bodyOf, recordsFor, Lies, Stored}
+use Rattle.psch.proofs.Lying.{found-lies}
 
 -- what the names stand for
 

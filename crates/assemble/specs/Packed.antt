@@ -1,30 +1,17 @@
 -- The whole file from a work area, and the work area after it.
 use Prim.Native.Nat.{ℕ, _+_, _-_, _*_, _≤_}
 use mathlib.Core.Path.{_≡_}
-use mathlib.Core.Bool.{true, false}
-use mathlib.Core.List.{_++_}
 use lib.ListN.{length}
 use Rattle.numbers.specs.Words.{Bytes, over, zeros}
-use Rattle.numbers.specs.Result.{ok, Every}
+use Rattle.numbers.specs.Result.{ok}
 use Rattle.schema.specs.Defs.{Schema, winning}
 use Rattle.schema.specs.Psch.{schemaOf}
 use Rattle.layout.specs.State.{State}
 use Rattle.layout.specs.Always.{Tiled}
-use Rattle.layout.specs.Assemble.{Records, fileOf}
+use Rattle.layout.specs.Assemble.{fileOf}
 use Rattle.area.specs.declared.Round.{Round}
 use Rattle.area.specs.declared.Progress.{Progress}
-use Rattle.area.specs.Rows.{namesIn}
 use Rattle.area.specs.Area.{itemsAt, stackAt, Rep}
-use Rattle.assemble.specs.Used.{recordsFor, Stored}
-
--- "used structures, used enums", by the names in the work area
-abbrev pub usedRecords : Bytes → Round → Progress → Bytes → Records
-usedRecords F R p w = recordsFor F false (namesIn w 65536 (p .structs)) ++ recordsFor F true (namesIn w (65536 + 4 * R .entries) (p .enums))
-
--- each of the names stands for a definition that lies in the schema file
-pub record AllStored (F : Bytes) (R : Round) (p : Progress) (w : Bytes) : Type 0 where
-  pub structs : Every (Stored F false) (namesIn w 65536 (p .structs))
-  pub enums : Every (Stored F true) (namesIn w (65536 + 4 * R .entries) (p .enums))
 
 -- the area w, with the numbers p, holds the state s of a layout over the schema file's definitions
 pub record Holds (F : Bytes) (R : Round) (p : Progress) (w : Bytes) (S : Schema) (s : State) (σ : Bytes) : Type 0 where

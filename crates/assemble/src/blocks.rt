@@ -1,10 +1,10 @@
 // The blocks' rows: the table of places, PMAP, and PSIN and PMAP together.
 use crate::data::write_data;
-use crate::head;
 use area::write_four;
 use area::write_two;
 use numbers::words::read_u32;
 use numbers::words::write_u32;
+use psch::section::head;
 ghost use mathlib.Core.Path.{_≡_};
 ghost use Prim.Native.Nat.{_+_, _*_, _≤_};
 ghost use mathlib.Core.List.{List, [], _∷_, _++_};

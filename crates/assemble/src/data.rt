@@ -1,8 +1,8 @@
 // The data section from the laid items: each is copied from the work area to its block's place plus its start.
-use crate::copy_part;
-use crate::head;
 use area::write_two;
 use numbers::words::read_u32;
+use psch::section::copy_part;
+use psch::section::head;
 ghost use mathlib.Core.Path.{_≡_};
 ghost use Prim.Native.Nat.{_+_};
 ghost use lib.ListN.{length, take, drop};

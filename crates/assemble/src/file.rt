@@ -1,11 +1,11 @@
 // The whole file: its length, and its bytes; and the work area cleared.
 use crate::blocks::assemble;
-use crate::psch::definitions_length;
-use crate::psch::put_schema;
 use area::Progress;
 use area::Round;
 use numbers::words::clear;
 use numbers::words::read_u32;
+use psch::definitions_length;
+use psch::put_schema;
 ghost use mathlib.Core.Path.{_≡_};
 ghost use mathlib.Core.List.{List};
 ghost use Prim.Native.Nat.{ℕ, _+_, _*_, _≤_};
@@ -19,7 +19,7 @@ ghost use Rattle.layout.specs.Assemble.{fileOf};
 ghost use Rattle.area.specs.Area.{rowsOf, Small};
 ghost use Rattle.area.specs.Posts.{Safe};
 ghost use Rattle.assemble.specs.Map.{placesOf};
-ghost use Rattle.assemble.specs.Used.{Counts};
+ghost use Rattle.psch.specs.Used.{Counts};
 ghost use Rattle.assemble.specs.Packed.{Holds, Fitting, SomeFitting, tableAt, InUse, rowsWiped, namesWiped, allWiped};
 
 // The lengths of the `count` blocks together.

@@ -2,10 +2,6 @@
 // decided before anything is written.
 use area::write_four;
 use area::write_two;
-use names::flags::flags_bits;
-use names::enums::enum_value;
-use names::enums::found_bits;
-use names::hashes::hash_of;
 use coerce::vector::Vector;
 use coerce::vector::vec_of;
 use coerce::whole::Bits;
@@ -14,6 +10,10 @@ use coerce::whole::float_of;
 use coerce::whole::has_str;
 use coerce::whole::int_of;
 use coerce::whole::str_of;
+use names::enums::enum_value;
+use names::enums::found_bits;
+use names::flags::flags_bits;
+use names::hashes::hash_of;
 use numbers::words::copy;
 use numbers::words::part_to;
 use numbers::words::write;

@@ -1,9 +1,6 @@
 // Replays recorded answers of the reference: standard input has the entries of an enum, then rows, each its length, its answers,
 // and the sheet that they were given for (differential/leaves/run record). A line for each coercion says how many answers agree.
 ghost use Prim.Native.Nat.{_≤_, _<_};
-use names::flags::flags_bits;
-use names::enums::enum_value;
-use names::hashes::hash_of;
 use coerce::vector::Vector;
 use coerce::vector::vec_of;
 use coerce::whole::Bits;
@@ -15,6 +12,9 @@ use coerce::whole::str_of;
 use conversions::parse::Word;
 use hash::rage_joaat;
 use libc::STDOUT_FILENO;
+use names::enums::enum_value;
+use names::flags::flags_bits;
+use names::hashes::hash_of;
 use numbers::words::part_from;
 use numbers::words::part_to;
 use numbers::words::read_u32;

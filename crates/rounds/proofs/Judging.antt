@@ -23,7 +23,7 @@ use Rattle.area.specs.declared.Progress.{Progress}
 use Rattle.area.specs.Area.{envOf, Rep}
 use Rattle.area.specs.Posts.{gives, refuses, Meets}
 use Rattle.rounds.specs.declared.Stage.{Stage}
-use Rattle.assemble.specs.Used.{Counts}
+use Rattle.psch.specs.Used.{Counts}
 use Rattle.assemble.specs.Packed.{Holds}
 use Rattle.rounds.specs.Run.{runOf, made, Standing, metIn}
 use Rattle.rounds.specs.Merge.{refusalOf, endedAt, remarksIn, Goes, Judges}

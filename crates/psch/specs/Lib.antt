@@ -1,0 +1,2 @@
+-- PSCH: what its functions say.
+pub mod Used
