@@ -14,7 +14,7 @@ use Rattle.area.specs.declared.Round.{Round}
 use Rattle.area.specs.declared.Progress.{Progress}
 use Rattle.area.specs.Segments.{Segment, flat}
 use Rattle.area.specs.Kept.{kept, rowsBytes}
-use Rattle.area.specs.Area.{rowsOf, encode, stackAt, segments, Rep, withItem, headed}
+use Rattle.area.specs.Area.{rowsOf, encode, stackAt, Rep, withItem, headed}
 use Rattle.area.specs.Posts.{Safe}
 use Rattle.area.proofs.Flat as flat
 use Rattle.area.proofs.Spots.{length-rowsOf, rowsOf-snoc, Filed, inside, behind, spot-small, spot-start}

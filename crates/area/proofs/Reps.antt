@@ -1,25 +1,20 @@
 -- What each step does to the representation. No line here names a place of the code. Assumes nothing.
-use mathlib.Core.Path.{_≡_, refl, sym, ap, subst, _∙_}
-use mathlib.Core.Bool.{Bool, true, false, cond, _||_}
-use mathlib.Core.List.{List, [], _∷_, _++_, append-assoc, append-nil}
-use Prim.Native.Nat.{ℕ, zero, suc, _+_, _-_, _*_, _^_, _≤_, _<_}
+use mathlib.Core.Path.{_≡_, refl, ap, _∙_}
+use mathlib.Core.List.{List, [], _∷_, _++_, append-assoc}
+use Prim.Native.Nat.{ℕ, _+_, _-_, _*_, _≤_}
 use native.Mathlib.Omega.{arith}
-use lib.Dec.{ltb, leb, eqb}
 use lib.ListN.{length, take, drop, length-append}
-use Rattle.numbers.specs.Words.{Bytes, words, bytesOf, over, zeros, padded, Stands}
-use Rattle.numbers.proofs.Bytes.{cut-at, next, length-words}
-use Rattle.schema.specs.Defs.{Schema, winning, indexEntries}
-use Rattle.layout.specs.State.{Item, Block, Core, Remark, State, withRemark, withCharge}
+use Rattle.numbers.specs.Words.{Bytes, words, over, zeros, Stands}
+use Rattle.numbers.proofs.Bytes.{cut-at, next}
+use Rattle.schema.specs.Defs.{Schema}
+use Rattle.layout.specs.State.{Core, Remark, State}
 use Rattle.area.specs.declared.Round.{Round}
 use Rattle.area.specs.declared.Progress.{Progress}
-use Rattle.area.specs.Segments.{Segment, flat, rooms}
-use Rattle.area.specs.Kept.{Kept, meet, kept, rowBytes, rowsBytes}
-use Rattle.area.specs.Rows.{Tiny}
-use Rattle.area.specs.Area.{rowsOf, encode, itemsAt, stackAt, segments, Small, Rep, withTop, withPaid, withNotes}
-use Rattle.area.specs.Posts.{Safe}
+use Rattle.area.specs.Segments.{Segment, flat}
+use Rattle.area.specs.Kept.{kept, rowsBytes}
+use Rattle.area.specs.Area.{rowsOf, encode, stackAt, segments, Rep, withTop}
 use Rattle.area.proofs.Over.{over-right, over-left, length-over}
 use Rattle.area.proofs.Flat as flat
-use Rattle.area.proofs.Remarks.{kept-snoc, length-rows}
 
 module _ (S : Schema) (R : Round) (n : ℕ) where
   -- the segments below the stack

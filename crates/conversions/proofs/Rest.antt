@@ -8,7 +8,7 @@ use borrow.Author.Tests.{lt-ltb, le-ltb}
 use lib.Pow.{pow-pos}
 use lib.IntN.{ℤ, pos, negsuc, negℤ, subℕ, _+ℤ_, _-ℤ_, _*ℤ_, +ℤ-comm, negℤ-negℤ}
 use Rattle.numbers.proofs.Parts.{split}
-use Rattle.conversions.specs.Single.{units, value}
+use Rattle.conversions.specs.Single.{value}
 use Rattle.conversions.specs.Round.{magOf}
 use Rattle.conversions.specs.Trunc.{whole}
 use Rattle.conversions.proofs.Best.{magOf-high}

@@ -1,6 +1,6 @@
 // f32 bit patterns: from a whole number, and to one.
 ghost use mathlib.Core.Path.{_≡_};
-ghost use Prim.Native.Nat.{_+_, _≤_, _<_, _*_, _^_};
+ghost use Prim.Native.Nat.{_+_, _<_, _*_, _^_};
 ghost use lib.IntN.{pos, natAbs, subℕ, _-ℤ_, _*ℤ_};
 ghost use Rattle.conversions.specs.Single.{value};
 ghost use Rattle.conversions.specs.Round.{Rounded, round40, magOf, f32Of};

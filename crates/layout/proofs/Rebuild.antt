@@ -1,26 +1,23 @@
 -- The rebuild: a built file, as the schema file, gives itself again.
 -- Assumes nothing.
-use Prim.Native.Nat.{ℕ, _+_, _≤_, _<_}
+use Prim.Native.Nat.{ℕ, _≤_, _<_}
 use native.Mathlib.Omega.{arith}
 use native.Mathlib.Nat.{le-refl}
 use mathlib.Core.Path.{_≡_, refl, sym, _∙_, ap, subst}
 use mathlib.Core.Logic.{_⊎_, inl, inr}
-use mathlib.Core.Bool.{true, false, _||_}
-use mathlib.Core.List.{[], _∷_}
+use mathlib.Core.Bool.{false}
 use mathlib.Core.Option.{none, some}
-use lib.Dec.{eqb, leb}
 use lib.ListN.{length, take}
 use lib.Seq.{take-append-seam}
 use borrow.Author.Tests.{ltb-false, le-ltb}
-use Rattle.numbers.specs.Words.{Bytes, words, over}
+use Rattle.numbers.specs.Words.{Bytes}
 use Rattle.numbers.specs.Result.{Result, ok, refused, andThen}
-use Rattle.value.specs.Rows.{Value, Fields, Map, Null, row, fieldsOf, childrenOf}
-use Rattle.schema.specs.Defs.{Schema, Lookup, StructDef, Member, winning, indexEntries}
+use Rattle.value.specs.Rows.{Fields, row, fieldsOf}
+use Rattle.schema.specs.Defs.{Schema, Lookup, StructDef, winning, indexEntries}
 use Rattle.schema.specs.Psch.{schemaOf}
 use Rattle.layout.specs.State.{Core, State, Env, Out, done, stop, ret, ifM, thin, contains, emptyState}
-use Rattle.layout.specs.Members.{rowOf, need}
-use Rattle.layout.specs.Runs.{Writer}
-use Rattle.layout.specs.Write.{pairsOf, mapOf, mapMember, root}
+use Rattle.layout.specs.Members.{need}
+use Rattle.layout.specs.Write.{mapOf, mapMember, root}
 use Rattle.layout.specs.Assemble.{usedOf, fileOf}
 use Rattle.layout.specs.Build.{Laid, Built, workNeed, capOf, packed, build, success, refusal, afterwards, buildPso}
 use Rattle.layout.specs.Demand3.{Rebuilds, NoMapLost}

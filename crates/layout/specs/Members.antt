@@ -1,9 +1,8 @@
 -- Members that lead to no structure: scalars, texts, enums and flags.
 -- d is the structure's definition, e the member, v its value, buf the structure's bytes so far, off a place in them.
-use Prim.Native.Nat.{ℕ, zero, suc, _+_, _-_, _/_, _%_}
+use Prim.Native.Nat.{ℕ, _+_, _-_, _/_, _%_}
 use mathlib.Core.Bool.{Bool, cond, _&&_, _||_}
-use mathlib.Core.List.{List, [], _∷_, _++_}
-use mathlib.Core.Option.{Option, none, some}
+use mathlib.Core.List.{[], _∷_, _++_}
 use lib.Dec.{leb, eqb}
 use lib.ListN.{length, take}
 use Rattle.numbers.specs.Words.{Bytes, bytesOf, over, isEmpty}

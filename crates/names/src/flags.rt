@@ -1,6 +1,6 @@
 // Rows as flag bits.
 ghost use mathlib.Core.Path.{_≡_};
-ghost use Prim.Native.Nat.{_≤_, _<_, _^_};
+ghost use Prim.Native.Nat.{_<_, _^_};
 ghost use Rattle.schema.specs.Psch.{entriesAt};
 ghost use Rattle.texts.specs.Text.{parts};
 ghost use Rattle.coerce.specs.Answer.{bitsIs};

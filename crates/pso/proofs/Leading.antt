@@ -8,7 +8,7 @@ use native.Mathlib.Omega.{arith}
 use lib.ListN.{length, take, drop}
 use Rattle.numbers.specs.Words.{Bytes, readAt}
 use Rattle.numbers.specs.Result.{ok, orElse, mapOption}
-use Rattle.schema.specs.Sections.{Sections, section, end, broken, sections}
+use Rattle.schema.specs.Sections.{Sections, section, end, broken}
 use Rattle.schema.specs.Defs.{leading}
 use Rattle.schema.specs.Index.{leadsTo, kept, placesFrom, sectionPlaces, placesOf, firstOf, firstPlace}
 use Rattle.schema.specs.Steps.{rest}

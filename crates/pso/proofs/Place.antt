@@ -7,7 +7,7 @@ use lib.Dec.{eqb}
 use lib.ListN.{length, take, drop}
 use Rattle.numbers.specs.Words.{Bytes, readAt}
 use Rattle.numbers.specs.Result.{Result, ok, refused, mapResult}
-use Rattle.schema.specs.Sections.{Sections, section, end, sections, PSIN}
+use Rattle.schema.specs.Sections.{Sections, section, end, PSIN}
 use Rattle.schema.specs.Steps.{rest}
 use Rattle.schema.proofs.Walk.{rest-all, part-length}
 use Rattle.pso.specs.Reader.{Pso, parsePso}

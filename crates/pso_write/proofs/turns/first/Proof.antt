@@ -1,5 +1,5 @@
 -- `pso_write::turns::first` meets its contract. Assumes nothing.
-use mathlib.Core.Path.{sym, subst, _∙_}
+use mathlib.Core.Path.{subst, _∙_}
 use lib.ListN.{length}
 use borrow.Author.Needs.{needs}
 use Rattle.rounds.specs.Merge.{Opens}

@@ -1,5 +1,5 @@
 -- `pso_write::turns::last` meets its contract. Assumes nothing.
-use mathlib.Core.Path.{sym, subst, _∙_}
+use mathlib.Core.Path.{sym, subst}
 use borrow.Author.Needs.{needs}
 use Rattle.area.specs.Posts.{Safe}
 use Rattle.pso_write.proofs.Endings.{end-unused, end-wiped, some-fitting, end-file}

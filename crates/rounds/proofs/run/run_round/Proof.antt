@@ -1,10 +1,7 @@
 use Rattle.rounds.proofs.Roots.{begin-safe, root-def, root-refused, item-refused, item-laid}
 use Rattle.cells.specs.declared.defs.Def.{Def}
-use Rattle.schema.specs.Defs.{Schema}
 use lib.ListN.{length}
 use native.Mathlib.Omega.{arith}
-use Prim.Native.Nat.{_+_}
-use mathlib.Core.Path.{refl, sym, _∙_}
 use borrow.Author.Needs.{needs}
 use Rattle.rounds.proofs.run.run_round.Statement.{statement}
 use Rattle.rounds.proofs.run.run_round.Tie as tie

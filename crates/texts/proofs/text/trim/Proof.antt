@@ -1,7 +1,6 @@
 -- `texts::text::trim` meets its contract: the front's white space is cut, and then the end's. Assumes nothing.
 use mathlib.Core.Path.{sym, ap, _∙_}
 use Prim.Native.Nat.{_-_}
-use lib.ListN.{drop}
 use denote.Ref.{now}
 use lib.Seq.{length-take-le}
 use borrow.Author.Needs.{needs}
