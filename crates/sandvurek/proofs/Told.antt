@@ -14,8 +14,8 @@ use Rattle.pso.specs.declared.blocks.Row as B
 use Rattle.pso.specs.declared.blocks.Row.the-variants as Y
 use Rattle.layout.specs.State.{Remark}
 use Rattle.layout.specs.Build.{After}
-use Rattle.pso_write.specs.Answers.{answerOf, leaves}
-use Rattle.pso_write.specs.declared.Built.{Built}
+use Rattle.turns.specs.Answers.{answerOf, leaves}
+use Rattle.turns.specs.declared.Built.{Built}
 use Rattle.sandvurek.specs.Exports.{outcomeIs, outcomeOf, BuildIs, readingIs, readingOf, blockIs, blockOf}
 use Rattle.sandvurek.specs.declared.Outcome.{Outcome}
 use Rattle.sandvurek.specs.declared.Reading.{Reading}

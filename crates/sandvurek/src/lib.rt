@@ -9,8 +9,8 @@ use pso::lookup::enumeration;
 use pso::lookup::structure;
 use pso::parse::Parsed;
 use pso::parse::parse_pso;
-use pso_write::Built;
 use pso_write::build_pso;
+use turns::Built;
 ghost use mathlib.Core.Path.{_≡_};
 ghost use lib.ListN.{length};
 ghost use Rattle.numbers.specs.Result.{ok};
@@ -18,7 +18,7 @@ ghost use Rattle.schema.specs.Defs.{leading};
 ghost use Rattle.pso.specs.Reader.{Pso, parsePso};
 ghost use Rattle.pso.specs.Blocks.{numbered};
 ghost use Rattle.layout.specs.Build.{buildPso};
-ghost use Rattle.pso_write.specs.Answers.{answerOf};
+ghost use Rattle.turns.specs.Answers.{answerOf};
 ghost use Rattle.sandvurek.specs.Exports.{outcomeIs, BuildIs, readingOf, blockIs, blockOf, definitionIs, structureOf, enumOf, memberOf, entryOf, StructIs, EnumIs};
 
 // What building gives: code 0, the file's length and the number of remarks; or the refusal's number, and zeros.

@@ -12,13 +12,13 @@ use numbers::words::part_to;
 use numbers::words::read_u32;
 use pso::parse::Parsed;
 use pso::parse::parse_pso;
-use pso_write::Built;
 use pso_write::build_pso;
+use turns::Built;
 ghost use mathlib.Core.Path.{_≡_};
 ghost use Prim.Native.Nat.{_≤_, _<_};
 ghost use lib.ListN.{length, take};
 ghost use Rattle.layout.specs.Build.{buildPso};
-ghost use Rattle.pso_write.specs.Answers.{leaves};
+ghost use Rattle.turns.specs.Answers.{leaves};
 
 mod judge;
 

@@ -48,20 +48,20 @@ use denote.Triple.Walked.{says, walkOf, goes-none-slice, goes-slice, goes-gave-s
 use denote.Exit.{yes}
 use Rattle.layout.specs.Build.{zeroRemark, filled}
 use Rattle.layout.specs.declared.Remark.{Remark}
-use Rattle.pso_write.specs.Turns.{Begins, Steps}
-use Rattle.pso_write.specs.declared.Built.{Built}
+use Rattle.turns.specs.Turns.{Begins, Steps}
+use Rattle.turns.specs.declared.Built.{Built}
 use Rattle.rounds.specs.declared.Stage.{Stage as St}
-use Rattle.pso_write.specs.declared.Turn.{Turn}
+use Rattle.turns.specs.declared.Turn.{Turn}
 use Rattle.pso_write.proofs.Again.{LentAgain, lends-at, back-at}
 use Rattle.pso_write.proofs.Shared.{LentShared, shares-at, unshares-at}
-use Rattle.pso_write.proofs.Built as O
-use Rattle.pso_write.proofs.Built.Laws as O′
+use Rattle.turns.proofs.Built as O
+use Rattle.turns.proofs.Built.Laws as O′
 use Rattle.layout.proofs.Remark as T
 use Rattle.layout.proofs.Remark.Laws as T′
 use Rattle.rounds.proofs.Stage as S
 use Rattle.rounds.proofs.Stage.Laws as S′
-use Rattle.pso_write.proofs.Turn as U
-use Rattle.pso_write.proofs.Turn.Laws as U′
+use Rattle.turns.proofs.Turn as U
+use Rattle.turns.proofs.Turn.Laws as U′
 use Rattle.pso_write.proofs.load as load′
 use Rattle.pso_write.proofs.load.Symbol as load-def
 use Rattle.pso_write.proofs.load.Symbol.{name as #load}
@@ -70,22 +70,22 @@ use Rattle.pso_write.proofs.store as store′
 use Rattle.pso_write.proofs.store.Symbol as store-def
 use Rattle.pso_write.proofs.store.Symbol.{name as #store}
 use Rattle.pso_write.proofs.store.Met as store-thm
-use Rattle.pso_write.proofs.turns.first as begin′
-use Rattle.pso_write.proofs.turns.first.Symbol as begin-def
-use Rattle.pso_write.proofs.turns.first.Symbol.{name as #begin}
-use Rattle.pso_write.proofs.turns.first.Met as begin-thm
-use Rattle.pso_write.proofs.turns.turn as step′
-use Rattle.pso_write.proofs.turns.turn.Symbol as step-def
-use Rattle.pso_write.proofs.turns.turn.Symbol.{name as #step}
-use Rattle.pso_write.proofs.turns.turn.Met as step-thm
+use Rattle.turns.proofs.first as begin′
+use Rattle.turns.proofs.first.Symbol as begin-def
+use Rattle.turns.proofs.first.Symbol.{name as #begin}
+use Rattle.turns.proofs.first.Met as begin-thm
+use Rattle.turns.proofs.step as step′
+use Rattle.turns.proofs.step.Symbol as step-def
+use Rattle.turns.proofs.step.Symbol.{name as #step}
+use Rattle.turns.proofs.step.Met as step-thm
 use Rattle.pso_write.proofs.zero_rest as rest′
 use Rattle.pso_write.proofs.zero_rest.Symbol as rest-def
 use Rattle.pso_write.proofs.zero_rest.Symbol.{name as #rest}
 use Rattle.pso_write.proofs.zero_rest.Met as rest-thm
-use Rattle.pso_write.proofs.turns.last as finish′
-use Rattle.pso_write.proofs.turns.last.Symbol as finish-def
-use Rattle.pso_write.proofs.turns.last.Symbol.{name as #finish}
-use Rattle.pso_write.proofs.turns.last.Met as finish-thm
+use Rattle.turns.proofs.last as finish′
+use Rattle.turns.proofs.last.Symbol as finish-def
+use Rattle.turns.proofs.last.Symbol.{name as #finish}
+use Rattle.turns.proofs.last.Met as finish-thm
 use Rattle.pso_write.proofs.build_pso.Key.{name as #own}
 use Rattle.pso_write.proofs.build_pso as build_pso
 use Rattle.pso_write.proofs.build_pso.Statement as stated
@@ -405,7 +405,7 @@ build-pso-spec 𝓤 H 𝓜 𝓖 𝓡 =
     (build-pso-meets 𝓤 H (𝓖 .A) (givenOf 𝓤 H 𝓜 𝓖) (𝓜 .mem) (𝓡 .run) (tablesOf 𝓤 H 𝓜 (tables 𝓤 H 𝓜 𝓡 code.env))
     (cited 𝓤 H (Load 𝓤 H (𝓖 .A) (𝓜 .mem) (𝓡 .run)) 𝓜 𝓡 code.env #load load-def.routine code.calls-pso-write·load (load-thm.met 𝓤 H 𝓜 𝓖 𝓡))
     (cited 𝓤 H (Store 𝓤 H (𝓖 .A) (𝓜 .mem) (𝓡 .run)) 𝓜 𝓡 code.env #store store-def.routine code.calls-pso-write·store (store-thm.met 𝓤 H 𝓜 𝓖 𝓡))
-    (cited 𝓤 H (Begin 𝓤 H (𝓖 .A) (𝓜 .mem) (𝓡 .run)) 𝓜 𝓡 code.env #begin begin-def.routine code.calls-pso-write·turns·first (begin-thm.met 𝓤 H 𝓜 𝓖 𝓡))
-    (cited 𝓤 H (Step 𝓤 H (𝓖 .A) (𝓜 .mem) (𝓡 .run)) 𝓜 𝓡 code.env #step step-def.routine code.calls-pso-write·turns·turn (step-thm.met 𝓤 H 𝓜 𝓖 𝓡))
+    (cited 𝓤 H (Begin 𝓤 H (𝓖 .A) (𝓜 .mem) (𝓡 .run)) 𝓜 𝓡 code.env #begin begin-def.routine code.calls-turns·first (begin-thm.met 𝓤 H 𝓜 𝓖 𝓡))
+    (cited 𝓤 H (Step 𝓤 H (𝓖 .A) (𝓜 .mem) (𝓡 .run)) 𝓜 𝓡 code.env #step step-def.routine code.calls-turns·step (step-thm.met 𝓤 H 𝓜 𝓖 𝓡))
     (cited 𝓤 H (Rest 𝓤 H (𝓖 .A) (𝓜 .mem) (𝓡 .run)) 𝓜 𝓡 code.env #rest rest-def.routine code.calls-pso-write·zero-rest (rest-thm.met 𝓤 H 𝓜 𝓖 𝓡))
-    (cited 𝓤 H (Finish 𝓤 H (𝓖 .A) (𝓜 .mem) (𝓡 .run)) 𝓜 𝓡 code.env #finish finish-def.routine code.calls-pso-write·turns·last (finish-thm.met 𝓤 H 𝓜 𝓖 𝓡)))
+    (cited 𝓤 H (Finish 𝓤 H (𝓖 .A) (𝓜 .mem) (𝓡 .run)) 𝓜 𝓡 code.env #finish finish-def.routine code.calls-turns·last (finish-thm.met 𝓤 H 𝓜 𝓖 𝓡)))

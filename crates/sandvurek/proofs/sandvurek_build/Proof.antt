@@ -38,10 +38,10 @@ use denote.Triple.Walked.{says, Stays, stay-none-slice, gave-slice, walkOf, goes
 use denote.Exit.{yes}
 use Rattle.layout.specs.Build.{After, buildPso}
 use Rattle.layout.specs.declared.Remark.{Remark}
-use Rattle.pso_write.specs.Answers.{answerOf, leaves}
-use Rattle.pso_write.specs.declared.Built.{Built}
-use Rattle.pso_write.proofs.Built as B
-use Rattle.pso_write.proofs.Built.Laws as B′
+use Rattle.turns.specs.Answers.{answerOf, leaves}
+use Rattle.turns.specs.declared.Built.{Built}
+use Rattle.turns.proofs.Built as B
+use Rattle.turns.proofs.Built.Laws as B′
 use Rattle.sandvurek.specs.Exports.{outcomeIs, BuildIs}
 use Rattle.sandvurek.proofs.Told.{build-told}
 use Rattle.sandvurek.specs.declared.Outcome.{Outcome}

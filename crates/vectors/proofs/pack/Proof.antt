@@ -47,14 +47,14 @@ use denote.Exit.{yes}
 use borrow.Table.Elements.{same-len}
 use Rattle.layout.specs.Build.{buildPso}
 use Rattle.layout.specs.declared.Remark.{Remark}
-use Rattle.pso_write.specs.Answers.{leaves}
-use Rattle.pso_write.specs.declared.Built.{Built}
+use Rattle.turns.specs.Answers.{leaves}
+use Rattle.turns.specs.declared.Built.{Built}
 use Rattle.vectors.specs.declared.Kept.{Kept as Pair}
 use Rattle.vectors.proofs.Front.{LentFront, lends-front, comes-home}
 use Rattle.layout.proofs.Remark as T
 use Rattle.layout.proofs.Remark.Laws as T′
-use Rattle.pso_write.proofs.Built as O
-use Rattle.pso_write.proofs.Built.Laws as O′
+use Rattle.turns.proofs.Built as O
+use Rattle.turns.proofs.Built.Laws as O′
 use Rattle.vectors.proofs.Kept as P
 use Rattle.vectors.proofs.Kept.Laws as P′
 use Rattle.pso_write.proofs.build_pso as build′

@@ -24,7 +24,7 @@ use denote.Struct.Laws as LL
 use denote.Triple.Walked.{says}
 use Rattle.layout.specs.declared.Remark.{Remark}
 use Rattle.rounds.specs.Merge.{Closing}
-use Rattle.pso_write.specs.Turns.{Ready}
+use Rattle.turns.specs.Turns.{Ready}
 use Rattle.rounds.specs.declared.Stage.{Stage as St}
 use Rattle.layout.proofs.Remark as T
 use Rattle.layout.proofs.Remark.Laws as T′

@@ -14,19 +14,19 @@ use denote.Builtin.{usize}
 use denote.Struct.Laws as LL
 use Rattle.layout.specs.Build.{zeroRemark, buildPso, filled}
 use Rattle.layout.specs.declared.Remark.{Remark}
-use Rattle.pso_write.specs.Answers.{leaves}
+use Rattle.turns.specs.Answers.{leaves}
 use Rattle.rounds.specs.Merge.{Closing, Inv, turns as turns-left}
-use Rattle.pso_write.specs.Turns.{Ready, Steps, Ends}
-use Rattle.pso_write.specs.declared.Built.{Built}
+use Rattle.turns.specs.Turns.{Ready, Steps, Ends}
+use Rattle.turns.specs.declared.Built.{Built}
 use Rattle.rounds.specs.declared.Stage.{Stage as St}
-use Rattle.pso_write.specs.declared.Turn.{Turn}
-use Rattle.pso_write.proofs.Endings.{ready, leaves-all}
+use Rattle.turns.specs.declared.Turn.{Turn}
+use Rattle.turns.proofs.Endings.{ready, leaves-all}
 use Rattle.layout.proofs.Remark as T
 use Rattle.layout.proofs.Remark.Laws as T′
 use Rattle.rounds.proofs.Stage as S
 use Rattle.rounds.proofs.Stage.Laws as S′
-use Rattle.pso_write.proofs.Turn as U
-use Rattle.pso_write.proofs.Turn.Laws as U′
+use Rattle.turns.proofs.Turn as U
+use Rattle.turns.proofs.Turn.Laws as U′
 use Rattle.pso_write.proofs.build_pso.Proof.Types.{IsSt}
 
 -- tests

@@ -23,10 +23,10 @@ use Rattle.rounds.proofs.Stage as S
 use Rattle.rounds.proofs.Stage.Laws as S′
 use Rattle.pso_write.proofs.load as load′
 use Rattle.pso_write.proofs.store as store′
-use Rattle.pso_write.proofs.turns.first as begin′
-use Rattle.pso_write.proofs.turns.turn as step′
+use Rattle.turns.proofs.first as begin′
+use Rattle.turns.proofs.step as step′
 use Rattle.pso_write.proofs.zero_rest as rest′
-use Rattle.pso_write.proofs.turns.last as finish′
+use Rattle.turns.proofs.last as finish′
 use Rattle.pso_write.proofs.build_pso as build_pso
 use Rattle.pso_write.proofs.build_pso.Code.Mir as body
 

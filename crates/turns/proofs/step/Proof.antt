@@ -1,14 +1,14 @@
--- `pso_write::turns::turn` meets its contract. Assumes nothing.
+-- `turns::step` meets its contract. Assumes nothing.
 use mathlib.Core.Path.{sym, ap, _∙_}
 use native.Mathlib.Omega.{arith}
 use borrow.Author.Needs.{needs}
 use Rattle.layout.specs.State.{sameRemark}
-use Rattle.pso_write.proofs.Turning.{step-found, step-next, fit-put, step-put}
-use Rattle.pso_write.proofs.turns.turn.Statement.{statement}
-use Rattle.pso_write.proofs.turns.turn.Tie as tie
+use Rattle.turns.proofs.Turning.{step-found, step-next, fit-put, step-put}
+use Rattle.turns.proofs.step.Statement.{statement}
+use Rattle.turns.proofs.step.Tie as tie
 
-pub turn-spec : {M : Type 1} → statement M
-turn-spec =
+pub step-spec : {M : Type 1} → statement M
+step-spec =
     tie.close
     (tie.spec
     (λ c. let f = c .before .before .before .before .before .pre .1 in omega (arith, f .some, f .stands .safe .rows))

@@ -9,9 +9,9 @@ use Rattle.layout.specs.Build.{buildPso, zeroRemark}
 use Rattle.rounds.specs.declared.Stage.{Stage}
 use Rattle.rounds.specs.Run.{metIn}
 use Rattle.rounds.specs.Merge.{Fit, Left, Own, Inv, bound, turns, Goes}
-use Rattle.pso_write.specs.declared.Built.{Built}
-use Rattle.pso_write.specs.declared.Turn.{Turn}
-use Rattle.pso_write.specs.Answers.{answerOf}
+use Rattle.turns.specs.declared.Built.{Built}
+use Rattle.turns.specs.declared.Turn.{Turn}
+use Rattle.turns.specs.Answers.{answerOf}
 
 -- another row is looked for
 abbrev pub withRow : Stage → ℕ → Stage

@@ -1,10 +1,10 @@
--- `pso_write::turns::last` meets its contract. Assumes nothing.
+-- `turns::last` meets its contract. Assumes nothing.
 use mathlib.Core.Path.{sym, subst}
 use borrow.Author.Needs.{needs}
 use Rattle.area.specs.Posts.{Safe}
-use Rattle.pso_write.proofs.Endings.{end-unused, end-wiped, some-fitting, end-file}
-use Rattle.pso_write.proofs.turns.last.Statement.{statement}
-use Rattle.pso_write.proofs.turns.last.Tie as tie
+use Rattle.turns.proofs.Endings.{end-unused, end-wiped, some-fitting, end-file}
+use Rattle.turns.proofs.last.Statement.{statement}
+use Rattle.turns.proofs.last.Tie as tie
 
 pub last-spec : {M : Type 1} → statement M
 last-spec =

@@ -1,11 +1,11 @@
--- `pso_write::turns::first` meets its contract. Assumes nothing.
+-- `turns::first` meets its contract. Assumes nothing.
 use mathlib.Core.Path.{subst, _∙_}
 use lib.ListN.{length}
 use borrow.Author.Needs.{needs}
 use Rattle.rounds.specs.Merge.{Opens}
-use Rattle.pso_write.proofs.Endings.{begin-refused, begin-ready, begin-round}
-use Rattle.pso_write.proofs.turns.first.Statement.{statement}
-use Rattle.pso_write.proofs.turns.first.Tie as tie
+use Rattle.turns.proofs.Endings.{begin-refused, begin-ready, begin-round}
+use Rattle.turns.proofs.first.Statement.{statement}
+use Rattle.turns.proofs.first.Tie as tie
 
 pub first-spec : {M : Type 1} → statement M
 first-spec =

@@ -1,6 +1,4 @@
-// The driver's steps: what each turn makes of the record that it is given.
-use crate::Built;
-use crate::Turn;
+// The driver's steps: the first round; a turn, which makes a record of the record that it is given; the end.
 use area::notes::row_at;
 use area::notes::same;
 use assemble::file::put_file;
@@ -17,7 +15,19 @@ use rounds::opening::Opening;
 use rounds::opening::opened;
 ghost use lib.ListN.{length};
 ghost use Rattle.rounds.specs.Merge.{Fit, Closing};
-ghost use Rattle.pso_write.specs.Turns.{Passes, Ready, Steps, Begins, Ends};
+ghost use Rattle.turns.specs.Turns.{Passes, Ready, Steps, Begins, Ends};
+
+// The length of the file and the number of remarks; or a refusal's number.
+pub enum Built {
+    File(usize, usize),
+    Refused(u32),
+}
+
+// What a turn makes of a record, and where the merge stands then.
+pub struct Turn {
+    pub st: Stage,
+    pub new: Remark,
+}
 
 // The work area is cleared, all is checked, and the first round runs.
 pub fn first(sheet: &[u8], schema: &[u8], work: &mut [u8], size: usize, room: usize) -> Stage
@@ -79,7 +89,7 @@ fn passed(
 }
 
 // One turn: record `at` is `old`.
-pub fn turn(
+pub fn step(
     sheet: &[u8],
     schema: &[u8],
     work: &mut [u8],

@@ -17,7 +17,7 @@ use Rattle.rounds.specs.declared.Stage.{Stage}
 use Rattle.assemble.specs.Packed.{InUse}
 use Rattle.rounds.specs.Run.{Roomy, Rooted, metIn}
 use Rattle.rounds.specs.Merge.{soughtAt, rowOf, Fit, Left, Judges, Takes}
-use Rattle.pso_write.specs.Turns.{withRow, Passes}
+use Rattle.turns.specs.Turns.{withRow, Passes}
 use Rattle.rounds.proofs.Standings.{standing, in-use, seen-is, next-within}
 use Rattle.rounds.proofs.Merges.{sought}
 

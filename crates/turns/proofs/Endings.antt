@@ -15,18 +15,18 @@ use Rattle.layout.specs.Build as Build
 use Rattle.layout.specs.Build.{Answer, success, After, zeroRemark, packed, build, afterwards, buildPso, filled}
 use Rattle.area.proofs.Flat.{length-zeros}
 use Rattle.area.specs.declared.Round.{Round}
-use Rattle.pso_write.specs.declared.Built.{Built}
-use Rattle.pso_write.specs.declared.Built.the-variants.{File, Refused}
+use Rattle.turns.specs.declared.Built.{Built}
+use Rattle.turns.specs.declared.Built.the-variants.{File, Refused}
 use Rattle.rounds.specs.declared.Job.{Job}
 use Rattle.rounds.specs.declared.Stage.{Stage}
 use Rattle.rounds.specs.declared.opening.Opening.the-variants as O
-use Rattle.pso_write.specs.Answers.{answerOf, leaves}
+use Rattle.turns.specs.Answers.{answerOf, leaves}
 use Rattle.assemble.specs.Map.{placesOf}
 use Rattle.assemble.specs.Packed.{Fitting, SomeFitting, tableAt, InUse}
 use Rattle.assemble.proofs.Wiping.{tabled-in-use}
 use Rattle.rounds.specs.Run.{Roomy, Rooted, runOf, Laid}
 use Rattle.rounds.specs.Merge.{noJob, refusalOf, remarksIn, Closing, Inv, Takes, Opens}
-use Rattle.pso_write.specs.Turns.{Begins, Ends}
+use Rattle.turns.specs.Turns.{Begins, Ends}
 use Rattle.rounds.proofs.Merges.{closes}
 
 -- the whole area cleared

@@ -18,7 +18,7 @@ use Rattle.area.specs.Rows.{rowsIn}
 use Rattle.rounds.specs.declared.Stage.{Stage}
 use Rattle.rounds.specs.Run.{metIn}
 use Rattle.rounds.specs.Merge.{soughtAt, rowOf, Fit, Own, Merging, Inv, bound, turns}
-use Rattle.pso_write.specs.Turns.{withCount, Passes, Steps}
+use Rattle.turns.specs.Turns.{withCount, Passes, Steps}
 use Rattle.rounds.proofs.Thinning.{noted-in, noted-out, found}
 use Rattle.rounds.proofs.Standings.{rows-distinct}
 use Rattle.rounds.proofs.Merges.{turns-seeking, some-left, not-there, sought}

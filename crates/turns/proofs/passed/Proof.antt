@@ -1,10 +1,10 @@
--- `pso_write::turns::passed` meets its contract. Assumes nothing.
+-- `turns::passed` meets its contract. Assumes nothing.
 use mathlib.Core.Path.{sym, subst, _∙_}
 use borrow.Author.Needs.{needs}
-use Rattle.pso_write.specs.Turns.{Passes}
-use Rattle.pso_write.proofs.Passing.{pass-next, pass-end, round-again, pass-round}
-use Rattle.pso_write.proofs.turns.passed.Statement.{statement}
-use Rattle.pso_write.proofs.turns.passed.Tie as tie
+use Rattle.turns.specs.Turns.{Passes}
+use Rattle.turns.proofs.Passing.{pass-next, pass-end, round-again, pass-round}
+use Rattle.turns.proofs.passed.Statement.{statement}
+use Rattle.turns.proofs.passed.Tie as tie
 
 pub passed-spec : {M : Type 1} → statement M
 passed-spec =

@@ -3,8 +3,8 @@ use mathlib.Core.List.{List}
 use Rattle.numbers.specs.Words.{Bytes}
 use Rattle.layout.specs.State.{Remark}
 use Rattle.layout.specs.Build.{Answer, success, refusal, After}
-use Rattle.pso_write.specs.declared.Built.{Built}
-use Rattle.pso_write.specs.declared.Built.the-variants.{File, Refused}
+use Rattle.turns.specs.declared.Built.{Built}
+use Rattle.turns.specs.declared.Built.the-variants.{File, Refused}
 
 -- "Success gives the file's length and the remark count"; "A refusal gives its number"
 abbrev pub answerOf : Built → Answer
