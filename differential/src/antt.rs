@@ -27,7 +27,7 @@ use Rattle.numbers.specs.Result.{Result, ok, refused, mapResult}
 use Rattle.pso.specs.Reader.{Pso, parsePso}
 use Rattle.layout.specs.Build.{Built, layout, build}
 use Rattle.layout.specs.Demand3.{readBack}
-use Rattle.pso_laws.specs.Eval
+use Rattle.layout.specs.Eval
 use Rattle.cases.specs.Check
 ";
 
@@ -190,7 +190,7 @@ pub fn cases(seed: u64, builds: usize, laws: usize, reads: usize, dir: &str) -> 
         (1..14).filter(|k| list.contains(k)).for_each(|k| kinds[k as usize] += 1);
     }
     println!("{} cases of building, by code {codes:?}, by remark kind {kinds:?}", chosen.len());
-    let mut modules: Vec<String> = ["Check", "Ten", "Records", "Texts"].map(String::from).to_vec();
+    let mut modules: Vec<String> = ["Check", "Records", "Texts"].map(String::from).to_vec();
     let made: Vec<String> = chosen.iter().enumerate().map(|(n, (c, o))| made(n, c, o)).collect();
     write_files(dir, "Made", "Cases", PER_MADE, &made, &mut modules)?;
     let laws = choose_laws(seed + 1, laws);

@@ -21,7 +21,7 @@ use Rattle.coerce.specs.Text.{trimmed, parts}
 use Rattle.coerce.specs.Float.{parsesFloat}
 use Rattle.coerce.specs.Numbers.{Fit, fits, unfit, floatText, intText}
 use Rattle.coerce.specs.Names.{hashText}
-use Rattle.pso_laws.specs.Eval
+use Rattle.layout.specs.Eval
 
 -- whether it is a float, the whole number, the hash, the number of parts
 data Reading : Type 0 where

@@ -8,7 +8,7 @@ use Rattle.numbers.specs.Result.{Result, ok, refused, mapResult}
 use Rattle.pso.specs.Reader.{Pso, parsePso}
 use Rattle.layout.specs.Build.{Built, layout, build}
 use Rattle.layout.specs.Demand3.{readBack}
-use Rattle.pso_laws.specs.Eval
+use Rattle.layout.specs.Eval
 use Rattle.cases.specs.Check
 
 T40 : Bytes

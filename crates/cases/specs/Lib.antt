@@ -1,7 +1,6 @@
 -- Worked cases, closed by evaluation. Made, Laws, Read and Texts are written by
 -- `differential/run record cases 4242 crates/cases/specs`, then `rt fmt`.
 pub mod Check
-pub mod Ten
 pub mod Records
 pub mod Texts
 pub mod Made00

@@ -12,7 +12,7 @@ use Rattle.texts.specs.Text.{trimmed, parts}
 use Rattle.texts.specs.Float.{parsesFloat}
 use Rattle.coerce.specs.Numbers.{Fit, fits, unfit, floatText, intText}
 use Rattle.names.specs.Names.{hashText}
-use Rattle.pso_laws.specs.Eval
+use Rattle.layout.specs.Eval
 
 -- whether it is a float, the whole number, the hash, the number of parts
 data Reading : Type 0 where

@@ -23,7 +23,7 @@ use Rattle.cells.specs.Names.{defOf, memberOf}
 use Rattle.members.specs.declared.Wrote.the-variants.{Done}
 use Rattle.members.specs.Posts.{remarkOn, wroteIs}
 use Rattle.members.proofs.Filling.{def-size, leaves-is, need-no, need-yes, went-noted}
-use Rattle.runs.specs.Posts.{Fell}
+use Rattle.members.specs.Posts.{Fell}
 use Rattle.choices.specs.Posts.{Embeds}
 use Rattle.choices.proofs.Lodging.{top-within}
 

@@ -8,3 +8,4 @@ pub mod Assemble
 pub mod Build
 pub mod Demand3
 pub mod Always
+pub mod Eval

@@ -1,11 +1,11 @@
 -- What the contracts say of members.
-use Prim.Native.Nat.{ℕ, _+_, _≤_}
+use Prim.Native.Nat.{ℕ, _+_, _-_, _≤_}
 use mathlib.Core.Path.{_≡_}
 use mathlib.Core.Bool.{Bool, true, false, cond}
 use mathlib.Core.List.{_++_}
 use lib.Dec.{leb}
 use lib.ListN.{length}
-use Rattle.numbers.specs.Words.{Bytes}
+use Rattle.numbers.specs.Words.{Bytes, over, zeros}
 use Rattle.numbers.specs.Result.{isSome}
 use Rattle.schema.specs.Defs.{Schema, winning}
 use Rattle.definitions.specs.declared.members.Member as coded
@@ -13,7 +13,7 @@ use Rattle.layout.specs.State.{Remark, State, M}
 use Rattle.layout.specs.Members as members
 use Rattle.area.specs.declared.Round.{Round}
 use Rattle.area.specs.declared.Progress.{Progress}
-use Rattle.area.specs.Area.{stackAt, Rep, withPaid, usedIn, envOf}
+use Rattle.area.specs.Area.{stackAt, Rep, withPaid, withTop, usedIn, envOf}
 use Rattle.area.specs.Posts.{Safe, Grown, Marks, Ans, gives, refuses, Meets}
 use Rattle.cells.specs.declared.defs.Def.{Def}
 use Rattle.members.specs.declared.Wrote.{Wrote}
@@ -60,3 +60,8 @@ pub record Slots (R : Round) (n : ℕ) (p : Progress) (w : Bytes) (sub : ℕ) (t
 abbrev pub Marked : Round → ℕ → Progress → Bytes → Bool → ℕ → Progress → Bytes → Type 0
 Marked R n p w known name q w' =
     (known ≡ true → Marks R n p w (λ S. isSome (winning S .enum name)) (usedIn name) q w') × (known ≡ false → (q ≡ p) × (w' ≡ w))
+
+-- what stands from `base` on is taken off the stack
+pub record Fell (p : Progress) (base : ℕ) (w : Bytes) (q : Progress) (w' : Bytes) : Type 0 where
+  pub number : q ≡ withTop p base
+  pub area : w' ≡ over w base (zeros (p .top - base))

@@ -1,4 +1,4 @@
-// Members that lead to no structure: scalars, texts, hashes, enums and flags; and look-up, remarks and the charge, which all writers share.
+// Members that lead to no structure: scalars, texts, hashes, enums and flags; and look-up, remarks, the charge and the dropping of a run, which all writers share.
 use area::Progress;
 use area::Round;
 use area::notes::note;
@@ -8,6 +8,7 @@ use definitions::lookup::find_structure;
 use definitions::members::Member;
 use definitions::members::read_head;
 use layout::Remark;
+use numbers::words::clear;
 ghost use mathlib.Core.Path.{_≡_};
 ghost use Prim.Native.Nat.{_≤_};
 ghost use lib.ListN.{length};
@@ -16,7 +17,7 @@ ghost use Rattle.schema.specs.Defs.{Schema, winning};
 ghost use Rattle.schema.specs.Psch.{schemaOf};
 ghost use Rattle.area.specs.Posts.{Safe, Notes};
 ghost use Rattle.members.specs.Names.{lookedIs, lookedUp};
-ghost use Rattle.members.specs.Posts.{remarkOn, paidIs};
+ghost use Rattle.members.specs.Posts.{remarkOn, paidIs, Fell};
 
 pub mod member;
 pub mod slots;
@@ -89,4 +90,15 @@ pub fn pay(round: Round, p: Progress, cost: usize) -> Wrote
     let mut q = p;
     q.charge = p.charge + cost;
     Wrote::Done(q)
+}
+
+// A run that is not wanted: what stands from `base` on is taken off the stack.
+pub fn drop_run(work: &mut [u8], p: Progress, base: usize) -> Progress
+    requires { ⌜ (base ≤ p .top) × (p .top ≤ length (now work)) ⌝ }
+    ensures { λ q. ⌜ Fell p base (now (work .entry)) q (now (work .exit)) ⌝ }
+{
+    clear(work, base, p.top - base);
+    let mut q = p;
+    q.top = base;
+    q
 }

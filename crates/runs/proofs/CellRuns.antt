@@ -30,7 +30,8 @@ use Rattle.members.specs.declared.Wrote.the-variants.{Done, Refused}
 use Rattle.members.specs.Posts.{anySchema, wroteIs, Slots}
 use Rattle.runs.specs.declared.Ran.{Ran}
 use Rattle.runs.specs.declared.Ran.the-variants as Rn
-use Rattle.runs.specs.Posts.{Yields, Fell}
+use Rattle.members.specs.Posts.{Fell}
+use Rattle.runs.specs.Posts.{Yields}
 use Rattle.runs.proofs.Loops.{Made, Fails, Halts, Ready, Running, Paid, runCost, row-ith, length-rowsFrom, run-room, run-turn, run-dropped, run-stopped}
 
 -- bytes over as many zeros are filled up

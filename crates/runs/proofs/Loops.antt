@@ -26,7 +26,8 @@ use Rattle.members.specs.Posts.{paidIs}
 use Rattle.members.proofs.Slotting.{paid-yes, paid-no, rep-paid, safe-paid}
 use Rattle.runs.specs.declared.Ran.{Ran}
 use Rattle.runs.specs.declared.Ran.the-variants as Rn
-use Rattle.runs.specs.Posts.{Yields, Fell}
+use Rattle.members.specs.Posts.{Fell}
+use Rattle.runs.specs.Posts.{Yields}
 
 -- what the elements so far give stands before what the others give
 abbrev pub joinOut : Bytes → Out (Option Bytes) → Out (Option Bytes)

@@ -3,7 +3,7 @@ use Prim.Native.Nat.{ℕ, _+_, _-_, _≤_}
 use mathlib.Core.Path.{_≡_}
 use mathlib.Core.List.{List, [], _++_}
 use mathlib.Core.Option.{Option, none, some}
-use Rattle.numbers.specs.Words.{Bytes, over, zeros}
+use Rattle.numbers.specs.Words.{Bytes}
 use Rattle.numbers.specs.Result.{mapOption, orValue}
 use Rattle.schema.specs.Defs
 use Rattle.schema.specs.Defs.{Schema, StructDef}
@@ -13,7 +13,7 @@ use Rattle.layout.specs.Runs as runs
 use Rattle.layout.specs.Runs.{Run}
 use Rattle.area.specs.declared.Round.{Round}
 use Rattle.area.specs.declared.Progress.{Progress}
-use Rattle.area.specs.Area.{Rep, withTop}
+use Rattle.area.specs.Area.{Rep}
 use Rattle.area.specs.Posts.{Safe, Grown, Ans, gives, refuses, Meets}
 use Rattle.runs.specs.declared.Ran.{Ran}
 use Rattle.runs.specs.declared.Ran.the-variants as Rn
@@ -39,11 +39,6 @@ pub record Yields (known : Schema → Type 0) (R : Round) (n : ℕ) (p : Progres
   pub grew : Grew R n p notes r
   pub says : (S : Schema) → known S → (s : State) (σ : Bytes) → Rep S R n s σ p w
       → Meets S R n (λ o. σ ++ runBytes o) (λ o x. mapOption (λ r. r .block) o ≡ x) (f S s) (ranIs r) w'
-
--- what stands from `base` on is taken off the stack
-pub record Fell (p : Progress) (base : ℕ) (w : Bytes) (q : Progress) (w' : Bytes) : Type 0 where
-  pub number : q ≡ withTop p base
-  pub area : w' ≡ over w base (zeros (p .top - base))
 
 -- a run whose elements lead to no structure
 unfoldable pub plainRun : Env → StructDef → Defs.Member → Defs.Member → Kinds.Kind → List ℕ → M (Option Run)

@@ -16,11 +16,11 @@ use definitions::lookup::find_enum;
 use definitions::members::Member;
 use definitions::members::entry_count;
 use members::Wrote;
+use members::drop_run;
 use members::pay;
 use members::say;
 use members::slots::slot_size;
 use members::slots::text_slot;
-use numbers::words::clear;
 use value::read_row;
 ghost use mathlib.Core.Path.{_≡_};
 ghost use Prim.Native.Nat.{_+_, _*_, _≤_};
@@ -37,7 +37,7 @@ ghost use Rattle.area.specs.Posts.{Safe, Open};
 ghost use Rattle.cells.specs.Names.{defOf, memberOf};
 ghost use Rattle.cells.specs.Cells.{Sane, cellSize, cellElement};
 ghost use Rattle.members.specs.Posts.{anySchema};
-ghost use Rattle.runs.specs.Posts.{Yields, Fell, plainRun};
+ghost use Rattle.runs.specs.Posts.{Yields, plainRun};
 
 // A run's bytes are on the stack, and the name of its block; or the run is dropped; or a refusal.
 pub enum Ran {
@@ -51,17 +51,6 @@ pub fn run_cost(stride: u32, n: u32) -> usize
     ensures { λ r. ⌜ r ≡ 16 + stride * n ⌝ }
 {
     16 + (stride as usize) * (n as usize)
-}
-
-// The elements from `base` on are taken off the stack.
-pub fn drop_run(work: &mut [u8], p: Progress, base: usize) -> Progress
-    requires { ⌜ (base ≤ p .top) × (p .top ≤ length (now work)) ⌝ }
-    ensures { λ q. ⌜ Fell p base (now (work .entry)) q (now (work .exit)) ⌝ }
-{
-    clear(work, base, p.top - base);
-    let mut q = p;
-    q.top = base;
-    q
 }
 
 // A run of n cells of `stride` bytes each; the first that does not fit drops it.
