@@ -9,7 +9,7 @@ use lib.ListN.{length, length-append}
 use Rattle.numbers.specs.Words.{Bytes, words, over}
 use Rattle.numbers.proofs.Bytes.{next, length-words}
 use Rattle.schema.specs.Defs.{Schema}
-use Rattle.layout.specs.State.{Item, Spot, State, done, stop, spot, file, pointerTo, addItemC, settle, onCore, addItem}
+use Rattle.layout.specs.State.{Item, Spot, State, done, stop, spot, pointerAt, file, pointerTo, addItemC, settle, onCore, addItem}
 use Rattle.area.specs.declared.Round.{Round}
 use Rattle.area.specs.declared.Progress.{Progress}
 use Rattle.area.specs.Segments.{Segment, flat}
@@ -31,7 +31,7 @@ lies p = leb (suc (p .before)) 4095 && leb (p .start) 0xFFFFF
 
 -- the core with it
 abbrev pub laidIn : ℕ → Bytes → State → State
-laidIn name b s = record { core = file b (s .core) (spot name (length b) (s .core .blocks)); charge = s .charge; events = s .events; uses = s .uses }
+laidIn name b s = record { core = file b (pointerAt (spot name (length b) (s .core .blocks))) (s .core) (spot name (length b) (s .core .blocks)); charge = s .charge; events = s .events; uses = s .uses }
 
 pub add-fits : (name : ℕ) (b : Bytes) (s : State) → lies (spot name (length b) (s .core .blocks)) ≡ true
     → addItem name b s ≡ done (pointerTo (suc (spot name (length b) (s .core .blocks) .before)) (spot name (length b) (s .core .blocks) .start)) (laidIn name b s)
@@ -105,8 +105,8 @@ module _ (R : Round) (n : ℕ) (p : Progress) (w : Bytes) (safe : Safe R n p) (S
   unfolding file
   rep-laid b τ w' count top lb h l e f g =
       let q = spot name len (s .core .blocks) in
-      let x : encode (s .core .items ++ (record { block = suc (q .before); start = q .start; bytes = b } ∷ [])) ≡ encode (s .core .items) ++ (headOf q ++ b) =
-      encode-snoc (s .core .items) (record { block = suc (q .before); start = q .start; bytes = b })
+      let x : encode (s .core .items ++ (record { pointer = pointerAt q; block = suc (q .before); start = q .start; bytes = b } ∷ [])) ≡ encode (s .core .items) ++ (headOf q ++ b) =
+      encode-snoc (s .core .items) (record { pointer = pointerAt q; block = suc (q .before); start = q .start; bytes = b })
       ∙ ap (λ (k : ℕ). encode (s .core .items) ++ (words (suc (q .before) ∷ q .start ∷ k ∷ 0 ∷ []) ++ b)) lb in
       let m : length (headOf q ++ b) ≡ 16 + len = length-append (headOf q) b ∙ omega (arith, length-words (suc (q .before) ∷ q .start ∷ len ∷ 0 ∷ [])) in
       let y : length (encode (s .core .items) ++ (headOf q ++ b)) ≡ length (encode (s .core .items)) + (16 + len) = length-append (encode (s .core .items)) (headOf q ++ b) ∙ ap (λ (k : ℕ). length (encode (s .core .items)) + k) m in

@@ -10,7 +10,7 @@ use Rattle.numbers.specs.Words.{Bytes}
 use Rattle.numbers.specs.Result.{given, isSome}
 use Rattle.schema.specs.Defs.{StructDef}
 use Rattle.layout.specs.State
-use Rattle.layout.specs.State.{Core, State, Env, Out, done, stop, Remark, spot, file}
+use Rattle.layout.specs.State.{Core, State, Env, Out, done, stop, Remark, spot, pointerAt, file}
 use Rattle.layout.proofs.Keep.{Claim, Okay, Keeps, k-bind}
 use Rattle.layout.proofs.Writers.{Defined, Prims}
 
@@ -84,19 +84,19 @@ module _ (N : ℕ → Type 0) (Q : Core → Type 0) where
   -- the item goes to a block that has a number, at a start that has a place in a pointer
   pub addItemC-ok : (n : ℕ) (bs : Bytes) (c : Core)
       → (leb (suc (spot n (length bs) (c .blocks) .before)) 4095 ≡ true → leb (spot n (length bs) (c .blocks) .start) 0xFFFFF ≡ true
-      → Q (file bs c (spot n (length bs) (c .blocks))))
+      → Q (file bs (pointerAt (spot n (length bs) (c .blocks))) c (spot n (length bs) (c .blocks))))
       → OkC Q (State.addItemC n bs c)
   unfolding State.addItemC
   addItemC-ok n bs c q =
       let p = spot n (length bs) (c .blocks) in
-      given-ok {A = ℕ} Q (leb (suc (p .before)) 4095 && leb (p .start) 0xFFFFF) (State.pointerTo (suc (p .before)) (p .start), file bs c p)
+      given-ok {A = ℕ} Q (leb (suc (p .before)) 4095 && leb (p .start) 0xFFFFF) (pointerAt p, file bs (pointerAt p) c p)
       (λ e. let t : (leb (suc (p .before)) 4095 ≡ true) × (leb (p .start) 0xFFFFF ≡ true) = both _ _ e in q (t .0) (t .1))
 
   pub core-prims : (E : Env) → Allows E N → ((d : StructDef) (c : Core) → Defined E d → Q c → OkC Q (State.useStructC (d .name) c))
       → ((n : ℕ) (c : Core) → isSome (E .defs .enum n) ≡ true → Q c → OkC Q (State.useEnumC n c))
       → ((n : ℕ) (bs : Bytes) (c : Core) → N n
       → leb (suc (spot n (length bs) (c .blocks) .before)) 4095 ≡ true → leb (spot n (length bs) (c .blocks) .start) 0xFFFFF ≡ true
-      → Q c → Q (file bs c (spot n (length bs) (c .blocks))))
+      → Q c → Q (file bs (pointerAt (spot n (length bs) (c .blocks))) c (spot n (length bs) (c .blocks))))
       → Prims E (onCore N Q)
   unfolding State.addItem
   core-prims E al hs hu ha =

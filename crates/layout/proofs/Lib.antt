@@ -14,6 +14,10 @@ pub mod Items
 pub mod Tiling
 pub mod Places
 pub mod Blocks
+-- pointers: what a step lays, a structure's length, what the four bytes of a slot say, items stay
+pub mod Sizes
+pub mod Slots
+pub mod Stay
 pub mod Root
 -- F carries each used definition once
 pub mod Uses

@@ -16,7 +16,8 @@ use Rattle.schema.specs.Defs.{Schema, Lookup, StructDef, winning, indexEntries}
 use Rattle.schema.specs.Psch.{schemaOf}
 use Rattle.layout.specs.State.{Env, Out, done, stop, Remark, thin, emptyState}
 use Rattle.layout.specs.Write.{root}
-use Rattle.layout.specs.Build.{Laid, Built, sheetOk, workNeed, capOf, within, laidFrom, layoutWith, layoutOf, layout, packed, fitted, build}
+pub use Rattle.layout.specs.Build.{envOf}
+use Rattle.layout.specs.Build.{Laid, Built, sheetOk, workNeed, within, laidFrom, layoutWith, layoutOf, layout, packed, fitted, build}
 use Rattle.layout.proofs.Keep.{Claim, Okay, Keeps}
 use Rattle.layout.proofs.Writers.{Prims, k-root}
 
@@ -41,10 +42,6 @@ within-ok {A = A} records es r a e = go (ltb records (length (thin es))) e
     go false f = f
 
 -- the layout
-
--- what the steps are given where S holds the definitions K
-abbrev pub envOf : Bytes → Schema → ℕ → Env
-envOf T K work = record { sheet = T; defs = winning K; chargeCap = capOf work (indexEntries K) }
 
 -- the layout l of the sheet T and the schema file S: the definitions, the root's definition, the end that writing came to
 pub record Made (T S : Bytes) (work : ℕ) (l : Laid) : Type 0 where

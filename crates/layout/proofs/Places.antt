@@ -16,9 +16,9 @@ use Rattle.pso.specs.Blocks.{numbered}
 use Rattle.layout.specs.State.{Item, Block, Core}
 use Rattle.layout.specs.Assemble.{joined, itemsIn, blocksFrom, dataOf, psinOf}
 use Rattle.layout.specs.Demand3.{placesFrom, BlocksTile, ItemsTile, Stands}
-use Rattle.layout.specs.Always.{lenAt, AllIn, Tiled, before, total}
+use Rattle.layout.specs.Always.{lenAt, AllIn, Formed, Tiled, before, total}
 use Rattle.layout.proofs.Items.{bytesIn, bytes-append, itemsIn-mid, tile-len, tile-start}
-use Rattle.layout.proofs.Tiling.{all-mid, says-block, says-start}
+use Rattle.layout.proofs.Tiling.{all-mid, every-mid, says-block, says-start}
 
 -- lengths
 
@@ -190,12 +190,13 @@ module _ (c : Core) (t : Tiled c) where
         let q : i .block ≡ suc k = omega (arith, h1) in
         let (blk, nb, pl) = place-at 16 k (c .blocks) (omega (arith, h1, h2)) in
         let (front, back, sp, len) = around k a i b e q (omega (arith, h1, h2)) in
-        let ss = says-start i h3 in
+        let f : Formed i = every-mid Formed a i b (subst (Every Formed) e (t .formed)) in
+        let ss = says-start i f h3 in
         record {
           block = blk;
-          number = says-block i h3;
+          number = says-block i f h3;
           start = ss;
-          found = subst (λ n. numbered (P .blocks) n ≡ some blk) (sym (says-block i h3 ∙ q)) (rw pb nb);
+          found = subst (λ n. numbered (P .blocks) n ≡ some blk) (sym (says-block i f h3 ∙ q)) (rw pb nb);
           bytes = rw (pd, ss, sp) (part-at front (i .bytes) back (blk .place + i .start) (omega (arith, len, pl)));
         }
 

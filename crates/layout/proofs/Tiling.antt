@@ -10,14 +10,15 @@ use lib.Dec.{eqb, leb}
 use lib.ListN.{length}
 use borrow.Author.Tests.{eqb-true, eqb-false, leb-true}
 use Rattle.numbers.specs.Words.{Bytes}
+use Rattle.numbers.specs.Result.{Every}
 use Rattle.value.specs.Rows.{Fields}
 use Rattle.schema.specs.Defs.{StructDef}
-use Rattle.layout.specs.State.{Item, Block, Core, State, emptyState, Env, done, Spot, spot, past, file, maxBlock, useStructC, useEnumC}
+use Rattle.layout.specs.State.{Item, Block, Core, State, emptyState, Env, done, Spot, spot, past, pointerAt, file, maxBlock, useStructC, useEnumC}
 use Rattle.layout.specs.Assemble.{itemsIn}
 use Rattle.layout.specs.Write.{root}
 use Rattle.layout.specs.Build.{Laid}
-use Rattle.layout.specs.Demand3.{ItemsTile, pointerOf, pointerBlock, pointerStart}
-use Rattle.layout.specs.Always.{lenAt, AllIn, Tiled}
+use Rattle.layout.specs.Demand3.{ItemsTile, pointerBlock, pointerStart}
+use Rattle.layout.specs.Always.{lenAt, AllIn, Formed, Tiled}
 use Rattle.layout.proofs.Items.{itemsIn-append, tile-snoc}
 use Rattle.layout.proofs.Keep.{Okay, Keeps}
 use Rattle.layout.proofs.Writers.{Prims, k-root}
@@ -76,20 +77,28 @@ pub all-mid : (n : ℕ) (a : List Item) (i : Item) (b : List Item) → AllIn n (
 all-mid n [] i b h = (h .0, h .1, h .2, h .3)
 all-mid n (j ∷ a) i b h = all-mid n a i b (h .4)
 
+pub every-mid : {A : Type 0} (Q : A → Type 0) (a : List A) (x : A) (b : List A) → Every Q (a ++ (x ∷ b)) → Q x
+every-mid Q [] x b h = h .0
+every-mid Q (y ∷ a) x b h = every-mid Q a x b (h .1)
+
 -- one more item
+
+every-snoc : {A : Type 0} (Q : A → Type 0) (a : List A) (x : A) → Every Q a → Q x → Every Q (a ++ (x ∷ []))
+every-snoc Q [] x h q = (q, tt)
+every-snoc Q (y ∷ a) x h q = (h .0, every-snoc Q a x (h .1) q)
 
 all-snoc : (n m : ℕ) (is : List Item) (i : Item) → n ≤ m → AllIn n is → 1 ≤ i .block → i .block ≤ m → i .block ≤ 4095 → i .start ≤ 0xFFFFF
     → AllIn m (is ++ (i ∷ []))
 all-snoc n m [] i h a o b c d = (o, b, c, d, tt)
 all-snoc n m (j ∷ is) i h a o b c d = (a .0, omega (arith, a .1), a .2, a .3, all-snoc n m is i h (a .4) o b c d)
 
-tiled-file : (bs : Bytes) (c : Core) (p : Spot) → Good (length bs) (c .blocks) p → suc (p .before) ≤ 4095 → p .start ≤ 0xFFFFF → Tiled c → Tiled (file bs c p)
+tiled-file : (bs : Bytes) (c : Core) (p : Spot) → Good (length bs) (c .blocks) p → suc (p .before) ≤ 4095 → p .start ≤ 0xFFFFF → Tiled c → Tiled (file bs (pointerAt p) c p)
 unfolding file
 tiled-file bs c p g hb hs t =
-    record { tiles = tl; within = all-snoc (length (c .blocks)) (length (p .blocks)) (c .items) i (g .more) (t .within) (omega arith) (omega (arith, g .inside)) hb hs }
+    record { tiles = tl; within = all-snoc (length (c .blocks)) (length (p .blocks)) (c .items) i (g .more) (t .within) (omega arith) (omega (arith, g .inside)) hb hs; formed = every-snoc Formed (c .items) i (t .formed) refl }
   where
     i : Item
-    i = record { block = suc (p .before); start = p .start; bytes = bs }
+    i = record { pointer = pointerAt p; block = suc (p .before); start = p .start; bytes = bs }
 
     go : (k : ℕ) (b : Bool) → eqb (suc (p .before)) (suc k) ≡ b → ItemsTile 0 (itemsIn (suc k) (c .items) ++ cond b (i ∷ []) []) (lenAt k (p .blocks))
     go k true e =
@@ -103,24 +112,24 @@ tiled-file bs c p g hb hs t =
 pub tiled-prims : (E : Env) → Prims E (onCore Any Tiled)
 unfolding useStructC useEnumC
 tiled-prims E =
-    core-prims Any Tiled E (allows-any E) (λ d c k q. record { tiles = q .tiles; within = q .within }) (λ n c e q. record { tiles = q .tiles; within = q .within })
+    core-prims Any Tiled E (allows-any E) (λ d c k q. record { tiles = q .tiles; within = q .within; formed = q .formed }) (λ n c e q. record { tiles = q .tiles; within = q .within; formed = q .formed })
     (λ n bs c u a b q. tiled-file bs c _ (spot-good n (length bs) (c .blocks)) (leb-true _ _ a) (leb-true _ _ b) q)
 
 -- of every layout
 pub tiled : (T S : Bytes) (work : ℕ) (l : Laid) → Made T S work l → Tiled (l .state .core)
 unfolding itemsIn lenAt
-tiled T S work l m = reached T S work l m (onCore Any Tiled) (tiled-prims (envOf T (m .schema) work)) (record { tiles = λ k. refl; within = tt })
+tiled T S work l m = reached T S work l m (onCore Any Tiled) (tiled-prims (envOf T (m .schema) work)) (record { tiles = λ k. refl; within = tt; formed = tt })
 
 -- of every run of the root that comes to an end
 pub root-tiled : (E : Env) (name : ℕ) (d : StructDef) (fs : Fields) (pointer : ℕ) (s : State) → E .defs .struct name ≡ some d → root E d fs emptyState ≡ done pointer s → Tiled (s .core)
 unfolding Keeps itemsIn lenAt
 root-tiled E name d fs pointer s e r =
-    subst (Okay (onCore Any Tiled)) r (k-root E (onCore Any Tiled) (tiled-prims E) d fs (tiled-prims E .found name d e .0) emptyState (record { tiles = λ k. refl; within = tt }))
+    subst (Okay (onCore Any Tiled)) r (k-root E (onCore Any Tiled) (tiled-prims E) d fs (tiled-prims E .found name d e .0) emptyState (record { tiles = λ k. refl; within = tt; formed = tt }))
 
 -- the number formed when an item is laid says its block and its start
 
-pub says-block : (i : Item) → i .block ≤ 4095 → pointerBlock (pointerOf i) ≡ i .block
-says-block i h = omega arith
+pub says-block : (i : Item) → Formed i → i .block ≤ 4095 → pointerBlock (i .pointer) ≡ i .block
+says-block i e h = omega arith
 
-pub says-start : (i : Item) → i .block ≤ 4095 → pointerStart (pointerOf i) ≡ i .start
-says-start i h = omega arith
+pub says-start : (i : Item) → Formed i → i .block ≤ 4095 → pointerStart (i .pointer) ≡ i .start
+says-start i e h = omega arith

@@ -12,7 +12,7 @@ use borrow.Author.Tests.{eqb-true, eq-eqb}
 use Rattle.numbers.specs.Result.{given, isSome, Every}
 use Rattle.numbers.specs.Words.{Bytes}
 use Rattle.schema.specs.Defs.{structName, enumName, winning}
-use Rattle.layout.specs.State.{State, Env, Spot, spot, pointerTo, done, stop, bind, after, remark, pay, withCharge, contains, insert, logStart, logEnum, useStruct, useStructC, useEnum, useEnumC, addItem, addItemC, file, settle}
+use Rattle.layout.specs.State.{State, Env, Spot, spot, pointerAt, done, stop, bind, after, remark, pay, withCharge, contains, insert, logStart, logEnum, useStruct, useStructC, useEnum, useEnumC, addItem, addItemC, file, settle}
 use Rattle.layout.specs.State.{onCore as changes}
 use Rattle.layout.specs.Assemble.{found, consOption, usedOf}
 use Rattle.layout.specs.Build.{Laid}
@@ -127,7 +127,7 @@ filed n bs s q = go (leb (suc (at .before)) 4095 && leb (at .start) 0xFFFFF)
     at : Spot
     at = spot n (length bs) (s .core .blocks)
 
-    go : (b : Bool) → Okay (always Logged) (settle s 10 (given b (pointerTo (suc (at .before)) (at .start), file bs (s .core) at)))
+    go : (b : Bool) → Okay (always Logged) (settle s 10 (given b (pointerAt at, file bs (pointerAt at) (s .core) at)))
     go true = record { structs = q .structs; enums = q .enums }
     go false = tt
 

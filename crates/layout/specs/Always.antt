@@ -6,7 +6,7 @@ use mathlib.Core.List.{List, [], _∷_}
 use lib.ListN.{length}
 use Rattle.numbers.specs.Result.{isSome, Every}
 use Rattle.schema.specs.Defs.{Lookup}
-use Rattle.layout.specs.State.{Item, Block, Core, contains}
+use Rattle.layout.specs.State.{Item, Block, Core, contains, pointerTo}
 use Rattle.layout.specs.Assemble.{itemsIn}
 use Rattle.layout.specs.Demand3.{ItemsTile, tally, count}
 
@@ -32,10 +32,15 @@ abbrev pub AllIn : ℕ → List Item → Type 0
 AllIn n [] = Unit {0}
 AllIn n (i ∷ is) = (1 ≤ i .block) × (i .block ≤ n) × (i .block ≤ 4095) × (i .start ≤ 0xFFFFF) × AllIn n is
 
--- the items of each block tile it, in order of laying
+-- "Pointer: block number (from 1) plus start × 4,096."
+abbrev pub Formed : Item → Type 0
+Formed i = i .pointer ≡ pointerTo (i .block) (i .start)
+
+-- the items of each block tile it, in order of laying; each has the pointer to where it is filed
 pub record Tiled (c : Core) : Type 0 where
   pub tiles : (k : ℕ) → ItemsTile 0 (itemsIn (suc k) (c .items)) (lenAt k (c .blocks))
   pub within : AllIn (length (c .blocks)) (c .items)
+  pub formed : Every Formed (c .items)
 
 -- names of 4 bytes
 abbrev pub Short : ℕ → Type 0

@@ -9,7 +9,7 @@ use Rattle.numbers.specs.Words.{Bytes, zeros}
 use Rattle.numbers.specs.Result.{Result, ok, refused, andThen, needed}
 use Rattle.value.specs.Rows.{row, fieldsOf}
 use Rattle.sheet.specs.Answer.{checked, numberOf}
-use Rattle.schema.specs.Defs.{Lookup, StructDef, winning, indexEntries}
+use Rattle.schema.specs.Defs.{Schema, Lookup, StructDef, winning, indexEntries}
 use Rattle.schema.specs.Psch.{schemaOf}
 use Rattle.layout.specs.State.{Remark, State, emptyState, Env, Out, done, stop, thin}
 use Rattle.layout.specs.Write.{root}
@@ -42,6 +42,10 @@ workNeed i = 65536 + 8 * i
 -- "The cap is the smaller of 4,194,304 and the whole quotient (work − 65,536 − 8 × i) / 4."
 unfoldable pub capOf : ℕ → ℕ → ℕ
 capOf work i = min 4194304 ((work - workNeed i) / 4)
+
+-- what the steps are given where the schema file holds the definitions K
+abbrev pub envOf : Bytes → Schema → ℕ → Env
+envOf T K work = record { sheet = T; defs = winning K; chargeCap = capOf work (indexEntries K) }
 
 -- 14: "one more distinct remark than records". It is met before the run's end, so before its answer and before any other refusal
 unfoldable pub within : {A : Type 0} → ℕ → List Remark → Result A → Result A

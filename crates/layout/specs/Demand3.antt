@@ -15,12 +15,13 @@ use Rattle.schema.specs.Psch.{schemaOf}
 use Rattle.pso.specs.Reader as R
 use Rattle.pso.specs.Blocks.{numbered}
 use Rattle.pso.specs.Answers.{dataAt}
-use Rattle.layout.specs.State.{Item, Block, Uses, State, Env, done, contains, pointerTo}
+use Rattle.layout.specs.State.{Item, Block, Uses, State, Env, done, contains}
 use Rattle.layout.specs.Members.{rowOf}
 use Rattle.layout.specs.Runs.{Writer}
 use Rattle.layout.specs.Write.{pairsOf, mapMember}
 use Rattle.layout.specs.Assemble.{itemsIn, dataOf, psinOf, usedOf}
-use Rattle.layout.specs.Build.{Laid, layout, success, refusal, buildPso}
+use Rattle.layout.specs.Slots.{Slots, Sizes, ItemsStay}
+use Rattle.layout.specs.Build.{Laid, envOf, layout, success, refusal, buildPso}
 
 -- what the reader finds
 
@@ -51,10 +52,6 @@ abbrev pub ItemsTile : ℕ → List Item → ℕ → Type 0
 ItemsTile at [] end = at ≡ end
 ItemsTile at (i ∷ is) end = (i .start ≡ at) × ItemsTile (at + length (i .bytes)) is end
 
--- "Its pointer is the number formed when it is laid": "block number (from 1) plus start × 4,096"
-abbrev pub pointerOf : Item → ℕ
-pointerOf i = pointerTo (i .block) (i .start)
-
 -- the block number that a pointer says
 abbrev pub pointerBlock : ℕ → ℕ
 pointerBlock p = p % 4096
@@ -63,13 +60,13 @@ pointerBlock p = p % 4096
 abbrev pub pointerStart : ℕ → ℕ
 pointerStart p = p / 4096
 
--- the pointer says the block and the start under which the item is filed, and "an item's bytes stand at its block's place plus its pointer's start"
+-- the pointer, "the number formed when it is laid", says the block and the start under which the item is filed, and "an item's bytes stand at its block's place plus its pointer's start"
 pub record Stands (P : R.Pso) (i : Item) : Type 0 where
   pub block : R.Block
-  pub number : pointerBlock (pointerOf i) ≡ i .block
-  pub start : pointerStart (pointerOf i) ≡ i .start
-  pub found : numbered (P .blocks) (pointerBlock (pointerOf i)) ≡ some block
-  pub bytes : take (length (i .bytes)) (drop (block .place + pointerStart (pointerOf i)) (P .data′)) ≡ i .bytes
+  pub number : pointerBlock (i .pointer) ≡ i .block
+  pub start : pointerStart (i .pointer) ≡ i .start
+  pub found : numbered (P .blocks) (pointerBlock (i .pointer)) ≡ some block
+  pub bytes : take (length (i .bytes)) (drop (block .place + pointerStart (i .pointer)) (P .data′)) ≡ i .bytes
 
 -- "The root is laid last; it need not start its block.": it is the last item, it has the pointer that the layout answers, F's root number is the block
 -- number of that pointer, the block has the name of the root's type, and the root's bytes are its last
@@ -78,11 +75,11 @@ pub record RootLast (T : Bytes) (l : Laid) (P : R.Pso) : Type 0 where
   pub item : Item
   pub block : R.Block
   pub last : l .state .core .items ≡ earlier ++ (item ∷ [])
-  pub pointer : l .pointer ≡ pointerOf item
-  pub number : P .root ≡ pointerBlock (pointerOf item)
+  pub pointer : l .pointer ≡ item .pointer
+  pub number : P .root ≡ pointerBlock (item .pointer)
   pub found : numbered (P .blocks) (P .root) ≡ some block
   pub named : block .name ≡ row T 0 .a
-  pub ends : pointerStart (pointerOf item) + length (item .bytes) ≡ block .length′
+  pub ends : pointerStart (item .pointer) + length (item .bytes) ≡ block .length′
 
 -- definitions
 
@@ -145,6 +142,12 @@ pub record Demand3 (T S : Bytes) (work out records : ℕ) (F : Bytes) : Type 0 w
   pub itemsTile : (k : ℕ) (b : R.Block) → numbered (read .blocks) k ≡ some b → ItemsTile 0 (itemsIn k (laid .state .core .items)) (b .length′)
   -- "an item's bytes stand at its block's place plus its pointer's start", and the pointer is that of its block and start
   pub itemsStand : Every (Stands read) (laid .state .core .items)
+  -- "Its pointer is the number formed when it is laid": wherever the layout puts a pointer, the four bytes put are the pointer of the item just laid for it
+  pub slotsPoint : Slots (envOf T schema work)
+  -- a structure has as many bytes as its definition says, so a slot that fits lies inside it
+  pub structsSized : Sizes (envOf T schema work)
+  -- no step takes an item away, so the item just laid for a slot is one of F's
+  pub itemsStay : ItemsStay (envOf T schema work)
   -- "The root is laid last; it need not start its block."
   pub rootLast : RootLast T laid read
   -- "PSCH has each used definition once, with the members or entries of S's winning one; a structure and an enum of one name are two."

@@ -6,6 +6,7 @@ pub mod Runs
 pub mod Write
 pub mod Assemble
 pub mod Build
+pub mod Slots
 pub mod Demand3
 pub mod Always
 pub mod Eval

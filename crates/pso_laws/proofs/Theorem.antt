@@ -53,9 +53,9 @@ module _ (F : Bytes) (p : R.Pso) (e : R.parsePso F ≡ ok p) where
   -- an item that stands in the data stands in a file that begins with the data
   stands : take (length (p .data′)) F ≡ p .data′ → (i : Item) → D.Stands p i → StandsIn F i
   stands front i s =
-      let k = D.pointerBlock (D.pointerOf i) in
+      let k = D.pointerBlock (i .pointer) in
       let b = block-is k (s .block) (s .found) in
-      let at = s .block .place + D.pointerStart (D.pointerOf i) in
+      let at = s .block .place + D.pointerStart (i .pointer) in
       let n = length (i .bytes) in
       let whole : p .data′ ++ drop (length (p .data′)) F ≡ F = ap (_++ drop (length (p .data′)) F) (sym front) ∙ take-append-drop (length (p .data′)) F in
       let there : take n (drop at F) ≡ i .bytes
@@ -64,7 +64,7 @@ module _ (F : Bytes) (p : R.Pso) (e : R.parsePso F ≡ ok p) where
         number = s .number;
         start = s .start;
         found = ap (λ (c : E.Block). c .found) b;
-        bytes = subst (λ (c : E.Block). take n (drop (c .place + D.pointerStart (D.pointerOf i)) F) ≡ i .bytes) (sym b) there;
+        bytes = subst (λ (c : E.Block). take n (drop (c .place + D.pointerStart (i .pointer)) F) ≡ i .bytes) (sym b) there;
       }
 
 -- the blocks from number k on
@@ -140,6 +140,9 @@ module _ (T S : Bytes) (work out records : ℕ) (F : Bytes) (d : D.Demand3 T S w
             (subst (λ (l : List R.Block). D.BlocksTile 16 l (length (d .read .data′))) places (d .blocksTile)));
         itemsFollow = λ k. found-is F (d .read) a k (λ (b : E.Block). D.ItemsTile 0 (itemsIn k (d .laid .state .core .items)) (b .length)) (λ b q. d .itemsTile k b q);
         itemsStand = every-map (D.Stands (d .read)) (StandsIn F) (stands F (d .read) a (d .dataFirst)) (d .laid .state .core .items) (d .itemsStand);
+        slotsPoint = d .slotsPoint;
+        structsSized = d .structsSized;
+        itemsStay = d .itemsStay;
         rootEnds = root-ends;
         once = d .carriesUsed;
         structs = λ name. struct-by F (d .read) a name (winning (d .schema)) (d .laid .state .uses) (d .carriesUsed);

@@ -13,8 +13,9 @@ use Rattle.schema.specs.Psch.{schemaOf}
 use Rattle.pso.specs.Reader.{Pso, parsePso}
 use Rattle.layout.specs.State.{Item, Block, contains}
 use Rattle.layout.specs.Assemble.{itemsIn}
-use Rattle.layout.specs.Build.{Laid, After, layout, buildPso}
-use Rattle.layout.specs.Demand3.{ItemsTile, pointerOf, pointerBlock, pointerStart, CarriesUsed}
+use Rattle.layout.specs.Slots.{Slots, Sizes, ItemsStay}
+use Rattle.layout.specs.Build.{Laid, After, envOf, layout, buildPso}
+use Rattle.layout.specs.Demand3.{ItemsTile, pointerBlock, pointerStart, CarriesUsed}
 use Rattle.sandvurek.specs.Exports.{outcomeOf, readingOf, blockOf, structureOf, enumOf, IsStruct, IsEnum}
 
 -- "the file stands at the front of the output"
@@ -27,23 +28,23 @@ BlocksFollow F k at [] end = at ≡ end
 BlocksFollow F k at (b ∷ bs) end =
     (blockOf F k ≡ record { found = 1; name = b .name; place = at; length = b .len }) × BlocksFollow F (suc k) (at + b .len) bs end
 
--- the pointer says the block and the start under which the item is filed, and the item's bytes stand in F at that block's place plus that start
+-- the pointer, "the number formed when it is laid", says the block and the start under which the item is filed, and the item's bytes stand in F at that block's place plus that start
 pub record StandsIn (F : Bytes) (i : Item) : Type 0 where
-  pub number : pointerBlock (pointerOf i) ≡ i .block
-  pub start : pointerStart (pointerOf i) ≡ i .start
-  pub found : blockOf F (pointerBlock (pointerOf i)) .found ≡ 1
-  pub bytes : take (length (i .bytes)) (drop (blockOf F (pointerBlock (pointerOf i)) .place + pointerStart (pointerOf i)) F) ≡ i .bytes
+  pub number : pointerBlock (i .pointer) ≡ i .block
+  pub start : pointerStart (i .pointer) ≡ i .start
+  pub found : blockOf F (pointerBlock (i .pointer)) .found ≡ 1
+  pub bytes : take (length (i .bytes)) (drop (blockOf F (pointerBlock (i .pointer)) .place + pointerStart (i .pointer)) F) ≡ i .bytes
 
 -- the root is the last item laid; its pointer is the layout's; its block is the one that F names as root, has the name of the root's type, and ends with the root
 pub record RootEnds (T F : Bytes) (l : Laid) : Type 0 where
   pub earlier : List Item
   pub root : Item
   pub last : l .state .core .items ≡ earlier ++ (root ∷ [])
-  pub pointer : l .pointer ≡ pointerOf root
-  pub number : readingOf F .root ≡ pointerBlock (pointerOf root)
+  pub pointer : l .pointer ≡ root .pointer
+  pub number : readingOf F .root ≡ pointerBlock (root .pointer)
   pub found : blockOf F (readingOf F .root) .found ≡ 1
   pub named : blockOf F (readingOf F .root) .name ≡ row T 0 .a
-  pub ends : pointerStart (pointerOf root) + length (root .bytes) ≡ blockOf F (readingOf F .root) .length
+  pub ends : pointerStart (root .pointer) + length (root .bytes) ≡ blockOf F (readingOf F .root) .length
 
 -- a used name leads to "S's winning one", another to none
 abbrev pub StructBy : Lookup → Bytes → ℕ → Bool → Type 0
@@ -90,6 +91,12 @@ pub record Pack (T S : Bytes) (work out records : ℕ) (F : Bytes) : Type 0 wher
   pub itemsFollow : (k : ℕ) → blockOf F k .found ≡ 1 → ItemsTile 0 (itemsIn k (laid .state .core .items)) (blockOf F k .length)
   -- "an item's bytes stand at its block's place plus its pointer's start"
   pub itemsStand : Every (StandsIn F) (laid .state .core .items)
+  -- "Its pointer is the number formed when it is laid": wherever the layout puts a pointer, the four bytes put are the pointer of the item just laid for it
+  pub slotsPoint : Slots (envOf T schema work)
+  -- a structure has as many bytes as its definition says, so a slot that fits lies inside it
+  pub structsSized : Sizes (envOf T schema work)
+  -- no step takes an item away, so the item just laid for a slot is one of F's
+  pub itemsStay : ItemsStay (envOf T schema work)
   -- "The root is laid last; it need not start its block."
   pub rootEnds : RootEnds T F laid
   -- "PSCH has each used definition once"
