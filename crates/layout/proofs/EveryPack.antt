@@ -16,7 +16,8 @@ use Rattle.layout.proofs.Tiling.{tiled}
 use Rattle.layout.proofs.Places.{blocks-tiled, items-tiled, items-stand}
 use Rattle.layout.proofs.Sizes.{sizes}
 use Rattle.layout.proofs.Slots.{slots}
-use Rattle.layout.proofs.Stay.{items-stay}
+use Rattle.layout.proofs.Join.{parts-join}
+use Rattle.layout.proofs.Stay.{laid-stays}
 use Rattle.layout.proofs.Root.{root-last}
 use Rattle.layout.proofs.Uses.{carries-used}
 use Rattle.layout.proofs.ReadBack.{reads, reads-used, data-at-front, data-first}
@@ -45,7 +46,8 @@ laid-holds T S work out records l o e short small =
       itemsStand = items-stand c t (readBack l) refl refl;
       slotsPoint = slots (envOf T (m .schema) work);
       structsSized = sizes (envOf T (m .schema) work);
-      itemsStay = items-stay (envOf T (m .schema) work);
+      partsJoin = parts-join (envOf T (m .schema) work);
+      laidStays = laid-stays (envOf T (m .schema) work);
       rootLast = root-last T S work l m;
       carriesUsed = subst (λ L. CarriesUsed (winning (m .schema)) (l .state .uses) (usedOf L c)) (sym (m .defs-are)) (carries-used T S work l m);
       rebuilds = rebuilds T S work out l m (reads-used T S work l m o small) short small;

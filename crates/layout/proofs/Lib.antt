@@ -14,9 +14,12 @@ pub mod Items
 pub mod Tiling
 pub mod Places
 pub mod Blocks
--- pointers: what a step lays, a structure's length, what the four bytes of a slot say, items stay
+-- pointers: a structure's length, what the four bytes of a slot say, what structures and runs are put together from, what was laid stays
 pub mod Sizes
+pub mod Laying
+pub mod Puts
 pub mod Slots
+pub mod Join
 pub mod Stay
 pub mod Root
 -- F carries each used definition once

@@ -20,7 +20,7 @@ use Rattle.layout.specs.Demand3.{placesFrom, readBack, pointerBlock, Roo
 use Rattle.layout.specs.Always.{lenAt, Tiled}
 use Rattle.layout.proofs.Items.{bytesIn, tile-rest}
 use Rattle.layout.proofs.Tiling.{tiled, says-block, says-start}
-use Rattle.layout.proofs.Slots.{Added, Adds, adds}
+use Rattle.layout.proofs.Laying.{Added, Adds, adds}
 use Rattle.layout.proofs.Places.{place-length, own-tile}
 use Rattle.layout.proofs.Named.{named-winning}
 use Rattle.layout.proofs.Made.{Made, envOf}
@@ -62,7 +62,7 @@ nth-some (b ∷ l) k a e = omega arith
 pub some-block : (T S : Bytes) (work : ℕ) (l : Laid) → Made T S work l → 1 ≤ length (l .state .core .blocks)
 some-block T S work l m =
     let e = last-laid T S work l m .added .lays in
-    nth-some (l .state .core .blocks) (e .item .block - 1) (e .block) (e .filed)
+    nth-some (l .state .core .blocks) (e .before) (e .block) (e .filed)
 
 place-named : (at k : ℕ) (bs : List Block) (b : Block) → nth bs k ≡ some b → (r : R.Block) × (nth (placesFrom at bs) k ≡ some r) × (r .name ≡ b .name)
 unfolding placesFrom nth
@@ -89,8 +89,8 @@ root-last T S work l m =
     let a = last-laid T S work l m .added in
     let e = a .lays in
     let i = e .item in
-    let k = i .block - 1 in
-    let q : i .block ≡ suc k = omega (arith, a .from1) in
+    let k = e .before in
+    let q : i .block ≡ suc k = e .number in
     let (b, nb, nm) = place-named 16 k (c .blocks) (e .block) (e .filed) in
     let says : pointerBlock (i .pointer) ≡ suc k = says-block i (a .formed) (a .most) ∙ q in
     let root : pointerBlock (l .pointer) ≡ suc k = ap pointerBlock (sym (e .pointer)) ∙ says in

@@ -24,7 +24,8 @@ use Rattle.layout.specs.Members.{high16, slotSize, enumSize, putPointer,
 use Rattle.layout.specs.Runs.{Writer, Run}
 use Rattle.layout.specs.Write
 use Rattle.layout.specs.Write.{write, members}
-use Rattle.layout.specs.Slots.{Turn, Sizes}
+use Rattle.layout.specs.Slots.{Turn}
+use Rattle.layout.specs.Parts.{Sizes}
 
 -- what an action answers: rules for a claim on answers, one for each way to put actions together
 
@@ -250,5 +251,7 @@ module _ (E : Env) where
   sizes =
       record {
         written = λ fuel left d fs s bs t e. given _ _ s bs t (g-write fuel left d fs) e;
-        turns = λ fuel left d fs e buf s x. given _ _ (x .begun) buf s (g-members (write E fuel left) (g-write fuel left) d fs (x .front) (zeros (d .size)) (length-replicate (d .size) 0)) (x .written);
+        turns =
+            λ fuel left d fs front e behind buf s x.
+            given _ _ (x .begun) buf s (g-members (write E fuel left) (g-write fuel left) d fs front (zeros (d .size)) (length-replicate (d .size) 0)) (x .written);
       }

@@ -1,158 +1,30 @@
 -- The four bytes of a slot are the pointer of the item that was laid for it: `slots`.
 -- Assumes nothing.
-use Prim.Native.Nat.{ℕ, suc, _+_, _-_, _*_, _^_, _≤_, _<_}
+use Prim.Native.Nat.{ℕ, _+_, _≤_}
 use native.Mathlib.Omega.{arith}
-use mathlib.Core.Path.{_≡_, refl, sym, _∙_, ap, subst}
-use mathlib.Core.Bool.{Bool, true, false, cond, _&&_, false≢true}
-use mathlib.Core.List.{List, [], _∷_, _++_}
-use mathlib.Core.Option.{Option, none, some}
+use mathlib.Core.Path.{_≡_, refl, _∙_}
+use mathlib.Core.Bool.{Bool, true, false, _||_}
+use mathlib.Core.List.{[], _∷_, _++_}
+use mathlib.Core.Option.{some}
+use mathlib.Core.Logic.{_⊎_, inl, inr}
 use lib.Dec.{eqb, leb}
-use lib.ListN.{length, length-append, length-replicate}
-use borrow.Author.Tests.{leb-true, ne-eqb}
-use Rattle.numbers.specs.Words.{Bytes, readAt, bytesOf, words, over, isEmpty, zeros}
-use Rattle.numbers.specs.Result.{given, nth, orValue}
-use Rattle.numbers.proofs.Bytes.{length-bytes, length-words, number-of}
-use Rattle.numbers.proofs.Laws.{length-over, read-over, read-before}
-use Rattle.value.specs.Rows.{Value, Row, row, fieldsOf, fieldNamed, Struct}
+use lib.ListN.{length, length-replicate}
+use borrow.Author.Tests.{leb-true}
+use Rattle.numbers.specs.Words.{Bytes, bytesOf, words, over, zeros}
+use Rattle.numbers.proofs.Bytes.{length-words}
+use Rattle.numbers.proofs.Laws.{length-over}
+use Rattle.value.specs.Rows.{Value, Fields, row, fieldNamed, childrenOf, Map, Null}
+use Rattle.coerce.specs.Numbers.{strOf}
 use Rattle.schema.specs.Defs.{StructDef, Member}
-use Rattle.layout.specs.State.{Item, Block, Core, State, Env, Out, done, stop, M, Spot, spot, pointerAt, pointerTo, file, after, bind, ret, ifM, optM, pay, withCharge, withRemark, remark, settle, onCore, addItem, addItemC}
-use Rattle.layout.specs.Members.{rowOf, says, need, slotSize, putPointer, putCounted, addString, textSlot, pointerMember, textMember}
-use Rattle.layout.specs.Runs.{Writer, Run, ownType, pointed, pointerElement, textElement}
-use Rattle.layout.specs.Write.{pointedMember, structMember, laidRun, pointedArray, arrayOf, arrayMember, mapOf, mapMember, member, write}
-use Rattle.layout.specs.Always.{Formed}
-use Rattle.layout.specs.Slots.{Lays, Points, PointsFirst, TextSlot, ArraySlot, MapSlot, StructSlot, MemberSlot, TextElements, StructElements, EmptyElements, Slots}
-use Rattle.layout.proofs.Tiling.{spot-case}
+use Rattle.layout.specs.State.{State, Env, Out, done, stop, M, after, bind, ret, ifM, optM, remark, addItem}
+use Rattle.layout.specs.Kinds
+use Rattle.layout.specs.Members.{rowOf, referenceAt, low16, says, leaves, need, wrong, isPointerText, slotSize, putPointer, textSlot, pointerMember, textMember}
+use Rattle.layout.specs.Runs.{Writer, pointed, pointerElement, textElement}
+use Rattle.layout.specs.Write.{arrayInfo, byPointer, pairsOf, isStructValue, isArrayValue, pointedMember, structMember, pointedArray, arrayOf, arrayMember, mapOf, mapMember, member, write, root}
+use Rattle.layout.specs.Slots.{Points, PointsFirst, PointsRoot, PutsOnly, step, TextSlot, ArraySlot, MapSlot, StructSlot, MemberSlot, TextElements, EmptyTexts, StructElements, EmptyElements, Slots}
 use Rattle.layout.proofs.Sizes.{sizes}
-
--- laying an item
-
--- the item has the pointer to where it is filed, which has 4 bytes
-pub record Added (n : ℕ) (bs : Bytes) (p : ℕ) (c c′ : Core) : Type 0 where
-  pub lays : Lays n bs p c c′
-  pub formed : Formed (lays .item)
-  pub from1 : 1 ≤ lays .item .block
-  pub most : lays .item .block ≤ 4095
-  pub start : lays .item .start ≤ 0xFFFFF
-
-abbrev pub Adds : ℕ → Bytes → Core → Out ℕ → Type 0
-Adds n bs c (done p s) = Added n bs p c (s .core)
-Adds n bs c (stop k es) = Unit {0}
-
--- the block that an item goes to has the item's name
-spot-here : (n need : ℕ) (bs : List Block) → (b : Block) × (nth (spot n need bs .blocks) (spot n need bs .before) ≡ some b) × (b .name ≡ n)
-unfolding nth
-spot-here n need [] = unfold spot in (_, refl, refl)
-spot-here n need (b ∷ bs) =
-    spot-case (λ p. (c : Block) × (nth (p .blocks) (p .before) ≡ some c) × (c .name ≡ n)) n need b bs (_, refl, refl) (spot-here n need bs)
-
-pub adds : (n : ℕ) (bs : Bytes) (s : State) → Adds n bs (s .core) (addItem n bs s)
-unfolding addItem onCore settle addItemC file
-adds n bs s = go (leb (suc (p .before)) 4095) refl (leb (p .start) 0xFFFFF) refl
-  where
-    p : Spot
-    p = spot n (length bs) (s .core .blocks)
-
-    go : (a : Bool) → leb (suc (p .before)) 4095 ≡ a → (b : Bool) → leb (p .start) 0xFFFFF ≡ b
-        → Adds n bs (s .core) (settle s 10 (given (a && b) (pointerAt p, file bs (pointerAt p) (s .core) p)))
-    go false e b f = tt
-    go true e false f = tt
-    go true e true f =
-        let (block, q, m) = spot-here n (length bs) (s .core .blocks) in
-        record {
-          lays =
-              record {
-                item = record { pointer = pointerAt p; block = suc (p .before); start = p .start; bytes = bs };
-                block = block;
-                laid = refl;
-                bytes = refl;
-                filed = subst (λ k. nth (p .blocks) k ≡ some block) (omega arith) q;
-                named = m;
-                pointer = refl;
-              };
-          formed = refl;
-          from1 = omega arith;
-          most = leb-true (suc (p .before)) 4095 e;
-          start = leb-true (p .start) 0xFFFFF f;
-        }
-
-added-short : (n : ℕ) (bs : Bytes) (p : ℕ) (c c′ : Core) → Added n bs p c c′ → p < 256 ^ 4
-added-short n bs p c c′ a = omega (arith, a .lays .pointer, a .formed, a .most, a .start)
-
--- what is put is read
-
-put-read : (buf : Bytes) (off p : ℕ) → off + 4 ≤ length buf → p < 256 ^ 4 → readAt 4 (putPointer buf off p) off ≡ p
-unfolding putPointer
-put-read buf off p h g =
-    let l : length (bytesOf 4 p) ≡ 4 = length-bytes 4 p in
-    ap (λ (k : ℕ). readAt k (over buf off (bytesOf 4 p)) off) (sym l) ∙ read-over buf off (bytesOf 4 p) (omega (arith, l)) ∙ number-of 4 p g
-
-counted-read : (buf : Bytes) (off p n : ℕ) → off + 12 ≤ length buf → p < 256 ^ 4 → readAt 4 (putCounted buf off p n) off ≡ p
-unfolding putCounted putPointer
-counted-read buf off p n h g =
-    let l : length (bytesOf 4 p) ≡ 4 = length-bytes 4 p in
-    let w : length (over buf off (bytesOf 4 p)) ≡ length buf = length-over buf off (bytesOf 4 p) (omega (arith, l)) in
-    let m : length (bytesOf 2 n ++ bytesOf 2 n) ≡ 4 = length-append (bytesOf 2 n) (bytesOf 2 n) ∙ omega (arith, length-bytes 2 n) in
-    read-before (over buf off (bytesOf 4 p)) (off + 8) (bytesOf 2 n ++ bytesOf 2 n) (omega (arith, w, m)) 4 off (omega arith)
-    ∙ (unfold putPointer in put-read buf off p (omega arith) g)
-
--- an item is laid, and its pointer put into bytes
-module _ (n : ℕ) (bs : Bytes) (c : Core) where
-  points : (off : ℕ) (f : ℕ → Bytes) → ((p : ℕ) → p < 256 ^ 4 → readAt 4 (f p) off ≡ p) → (o : Out ℕ) → Adds n bs c o → Points n bs off c (after o (λ p. ret (f p)))
-  unfolding after ret
-  points off f h (done p s) a = subst (λ (k : ℕ). Lays n bs k c (s .core)) (sym (h p (added-short n bs p c (s .core) a))) (a .lays)
-  points off f h (stop k es) a = tt
-
-  points-first : (f : ℕ → Bytes) → ((p : ℕ) → p < 256 ^ 4 → readAt 4 (f p) 0 ≡ p) → (o : Out ℕ) → Adds n bs c o → PointsFirst n bs c (after o (λ p. ret (some (f p))))
-  unfolding after ret
-  points-first f h (done p s) a = subst (λ (k : ℕ). Lays n bs k c (s .core)) (sym (h p (added-short n bs p c (s .core) a))) (a .lays)
-  points-first f h (stop k es) a = tt
-
--- texts
-
-text-read : (sub : ℕ) (t buf : Bytes) (off : ℕ) → off + slotSize sub ≤ length buf → (p : ℕ) → p < 256 ^ 4
-    → readAt 4 (cond (eqb sub 3) (putCounted buf off p (length t)) (putPointer buf off p)) off ≡ p
-text-read sub t buf off h p g = go (eqb sub 3) h
-  where
-    go : (b : Bool) → off + cond b 16 8 ≤ length buf → readAt 4 (cond b (putCounted buf off p (length t)) (putPointer buf off p)) off ≡ p
-    go true h = counted-read buf off p (length t) (omega (arith, h)) g
-    go false h = put-read buf off p (omega (arith, h)) g
-
-adds-text : (E : Env) (t : Bytes) (s : State) → Adds 1 (t ++ (0 ∷ [])) (s .core) (addString E t s)
-unfolding addString bind after pay
-adds-text E t s = go (leb (s .charge + (16 + (length t + 1))) (E .chargeCap))
-  where
-    go : (b : Bool)
-        → Adds 1 (t ++ (0 ∷ [])) (s .core)
-        (after (cond b (done (tt {0}) (withCharge (s .charge + (16 + (length t + 1))) s)) (stop 9 (s .events))) (λ _. addItem 1 (t ++ (0 ∷ []))))
-    go true = adds 1 (t ++ (0 ∷ [])) (withCharge (s .charge + (16 + (length t + 1))) s)
-    go false = tt
-
-text-slot : (E : Env) (sub : ℕ) (t buf : Bytes) (off : ℕ) (s : State) → off + slotSize sub ≤ length buf → isEmpty t ≡ false
-    → Points 1 (t ++ (0 ∷ [])) off (s .core) (textSlot E sub t buf off s)
-unfolding textSlot ifM bind
-text-slot E sub t buf off s h e =
-    rw e (points 1 (t ++ (0 ∷ [])) (s .core) off _ (text-read sub t buf off h) (addString E t s) (adds-text E t s))
-
--- runs, whatever m made them from
-run-slot : (m : M (Option Run)) (n off : ℕ) (buf : Bytes) (s : State) (r : Run) (t : State) → off + 12 ≤ length buf → m s ≡ done (some r) t
-    → Points (r .block) (r .bytes) off (t .core) (laidRun m n off buf s)
-unfolding laidRun bind after optM
-run-slot m n off buf s r t h e =
-    rw e (points (r .block) (r .bytes) (t .core) off _ (λ p g. counted-read buf off p n h g) (addItem (r .block) (r .bytes) t) (adds (r .block) (r .bytes) t))
-
--- structures by pointer
-
-module _ (E : Env) (w : Writer) (d : StructDef) (e : Member) where
-  pointed-is : (ref : ℕ) (v : Row) (s : State) (i : StructDef) (bs : Bytes) (t : State) → E .defs .struct (ownType E v ref) ≡ some i → w i (fieldsOf (E .sheet) v) s ≡ done bs t
-      → pointed E w d e ref v s ≡ after (addItem (i .name) bs t) (λ p. ret (some p))
-  unfolding pointed optM bind after
-  pointed-is ref v s i bs t f g = rw (f, g)
-
-  -- what follows an answer that is there
-  there : {A B : Type 0} (o : Out A) (k : Option A → M B) → after (after o (λ p. ret (some p))) k ≡ after o (λ p. k (some p))
-  unfolding after ret
-  there (done a s) k = refl
-  there (stop n es) k = refl
+use Rattle.layout.proofs.Laying.{Adds, adds, put-read, points, points-first, text-slot, run-slot, there, pointed-is}
+use Rattle.layout.proofs.Puts.{o-opt, o-leaves, o-wrong, o-need, o-text, o-pointedArray, o-pointedMember, o-mapOf, not-fixed}
 
 -- members whose turn has come: the structure has its full length, so a slot that fits lies inside it
 
@@ -160,14 +32,7 @@ module _ (E : Env) (w : Writer) (d : StructDef) (e : Member) (v : Value) (buf : 
   text-member : TextSlot E w d e v buf s
   unfolding member textMember pointerMember need ifM optM
   text-member t k p h q z =
-      rw (k, later, p, h, q) (text-slot E (e .subtype) t buf (e .offset) s (omega (arith, leb-true (e .offset + slotSize (e .subtype)) (d .size) h, l)) z)
-    where
-      go : (b : Bool) → leb 1 (e .subtype) ≡ b → (b && leb (e .subtype) 3) ≡ true → eqb (e .subtype) 0 ≡ false
-      go true y x = ne-eqb (e .subtype) 0 (λ z. let y : 1 ≤ e .subtype = leb-true 1 (e .subtype) y in absurd (omega (arith, z)))
-      go false y x = absurd (false≢true x)
-
-      later : eqb (e .subtype) 0 ≡ false
-      later = go (leb 1 (e .subtype)) refl p
+      rw (k, not-fixed (e .subtype) p, p, h, q) (text-slot E (e .subtype) t buf (e .offset) s (omega (arith, leb-true (e .offset + slotSize (e .subtype)) (d .size) h, l)) z)
 
   array-member : ArraySlot E w d e v buf s
   unfolding member arrayMember arrayOf pointedArray need ifM optM
@@ -185,11 +50,74 @@ module _ (E : Env) (w : Writer) (d : StructDef) (e : Member) (v : Value) (buf : 
   struct-member : StructSlot E w d e v buf s
   unfolding member structMember pointedMember need ifM bind optM
   struct-member i bs t k b h m f g =
-      rw (k, b, h, m, pointed-is E w d e (e .reference) (rowOf E v) s i bs t f g, there E w d e)
+      rw (k, b, h, m, pointed-is E w d e (e .reference) (rowOf E v) s i bs t f g, there)
       (points (i .name) bs (t .core) (e .offset) _ (λ p q. put-read buf (e .offset) p (omega (arith, leb-true (e .offset + 8) (d .size) h, l)) q) (addItem (i .name) bs t) (adds (i .name) bs t))
 
+  text-only : Kinds.kindOf (e .type) ≡ Kinds.text → isPointerText (e .subtype) ≡ true → PutsOnly buf (e .offset) (step E w d e v buf s)
+  unfolding member textMember pointerMember ifM
+  text-only k p =
+      rw (k, not-fixed (e .subtype) p, p)
+      (o-need d e buf (e .offset) (slotSize (e .subtype)) _ (λ h. o-opt buf (e .offset) (strOf (E .sheet) (rowOf E v)) _ _ (o-wrong d e v buf (e .offset)) (λ t. o-text E (e .subtype) t buf (e .offset) (omega (arith, h, l)))) s)
+
+  array-only : (x : Member) → Kinds.kindOf (e .type) ≡ Kinds.array → arrayInfo d e ≡ some x → byPointer (e .subtype) (x .subtype) ≡ true → PutsOnly buf (e .offset) (step E w d e v buf s)
+  unfolding member arrayMember arrayOf optM ifM
+  array-only x k i p = rw (k, i, p) (go (isArrayValue E (rowOf E v)))
+    where
+      go : (b : Bool) → PutsOnly buf (e .offset) (ifM b (pointedArray E w d e x (childrenOf (rowOf E v)) buf) (wrong d e v buf) s)
+      go true = o-pointedArray d e E w x (childrenOf (rowOf E v)) buf l s
+      go false = o-wrong d e v buf (e .offset) s
+
+  struct-only : Kinds.kindOf (e .type) ≡ Kinds.structure → eqb (e .subtype) 0 ≡ false → PutsOnly buf (e .offset) (step E w d e v buf s)
+  unfolding member structMember ifM
+  struct-only k z = rw (k, z) (go (isStructValue E (rowOf E v)))
+    where
+      go : (b : Bool) → PutsOnly buf (e .offset) (ifM b (pointedMember E w d e (rowOf E v) buf) (wrong d e v buf) s)
+      go true = o-pointedMember d e E w (rowOf E v) buf l s
+      go false = o-wrong d e v buf (e .offset) s
+
+  map-only : Kinds.kindOf (e .type) ≡ Kinds.map
+      → PutsOnly buf (e .offset + 8) (step E w d e v buf s) ⊎ PutsOnly (over buf (e .offset) (words (0x01000000 ∷ []))) (e .offset + 8) (step E w d e v buf s)
+  unfolding member mapMember need ifM
+  map-only k = rw k (supported (eqb (e .subtype) 1))
+    where
+      marked : Bytes
+      marked = over buf (e .offset) (words (0x01000000 ∷ []))
+
+      Either : M Bytes → Type 0
+      Either m = PutsOnly buf (e .offset + 8) (m s) ⊎ PutsOnly marked (e .offset + 8) (m s)
+
+      pairs : M Bytes
+      pairs = mapOf E w d e (referenceAt d (low16 (e .reference))) (pairsOf (childrenOf (rowOf E v))) marked
+
+      held : (b : Bool) → e .offset + 24 ≤ d .size → Either (ifM b pairs (wrong d e v buf))
+      held true h =
+          let n : length (words (0x01000000 ∷ [])) ≡ 4 = length-words (0x01000000 ∷ []) in
+          let o : length marked ≡ length buf = length-over buf (e .offset) (words (0x01000000 ∷ [])) (omega (arith, n, h, l)) in
+          inr (o-mapOf d e E w (referenceAt d (low16 (e .reference))) (pairsOf (childrenOf (rowOf E v))) marked (o ∙ l) h s)
+      held false h = inl (o-wrong d e v buf (e .offset + 8) s)
+
+      fitting : (b : Bool) → leb (e .offset + 24) (d .size) ≡ b
+          → Either (ifM b (ifM (eqb (rowOf E v .kind) Map || eqb (rowOf E v .kind) Null) pairs (wrong d e v buf)) (leaves d e 1 (d .size) buf))
+      fitting true q = held (eqb (rowOf E v .kind) Map || eqb (rowOf E v .kind) Null) (leb-true (e .offset + 24) (d .size) q)
+      fitting false q = inl (o-leaves d e buf (e .offset + 8) 1 (d .size) s)
+
+      supported : (b : Bool)
+          → Either (ifM b (need d e 24 buf (ifM (eqb (rowOf E v .kind) Map || eqb (rowOf E v .kind) Null) pairs (wrong d e v buf))) (leaves d e 6 (e .subtype) buf))
+      supported true = fitting (leb (e .offset + 24) (d .size)) refl
+      supported false = inl (o-leaves d e buf (e .offset + 8) 6 (e .subtype) s)
+
   member-slot : MemberSlot E w d e v buf s
-  member-slot = record { text = text-member; array = array-member; map = map-member; structure = struct-member }
+  member-slot =
+      record {
+        text = text-member;
+        array = array-member;
+        map = map-member;
+        structure = struct-member;
+        textOnly = text-only;
+        arrayOnly = array-only;
+        mapOnly = map-only;
+        structureOnly = struct-only;
+      }
 
 -- elements of a run
 
@@ -206,18 +134,32 @@ module _ (E : Env) where
   struct-elements : StructElements E
   unfolding pointerElement ifM bind
   struct-elements w d e ref r s i bs t k f g =
-      rw (k, pointed-is E w d e ref (row (E .sheet) r) s i bs t f g, there E w d e)
+      rw (k, pointed-is E w d e ref (row (E .sheet) r) s i bs t f g, there)
       (points-first (i .name) bs (t .core) _ (λ p q. put-read (zeros 8) 0 p (omega arith) q) (addItem (i .name) bs t) (adds (i .name) bs t))
 
   empty-elements : EmptyElements E
   unfolding pointerElement ifM bind after ret pointed optM says remark putPointer over bytesOf
   empty-elements w d e ref r s = (λ k. rw k refl, λ k f. rw (k, f) refl)
 
+  empty-texts : EmptyTexts E
+  unfolding textElement textSlot ifM bind after ret
+  empty-texts sub r s z = rw z refl
+
+  root-laid : (d : StructDef) (fs : Fields) (s : State) (bs : Bytes) (t : State) → write E 32 32 d fs s ≡ done bs t → PointsRoot (d .name) bs (t .core) (root E d fs s)
+  unfolding root bind after
+  root-laid d fs s bs t e = rw e (go (addItem (d .name) bs t) (adds (d .name) bs t))
+    where
+      go : (o : Out ℕ) → Adds (d .name) bs (t .core) o → PointsRoot (d .name) bs (t .core) o
+      go (done p u) a = a .lays
+      go (stop n es) a = tt
+
   pub slots : Slots E
   slots =
       record {
-        members = λ fuel left d fs e buf s x. member-slot E (write E fuel left) d e (fieldNamed (e .name) fs) buf s (sizes E .turns fuel left d fs e buf s x);
+        members = λ fuel left d fs front e behind buf s x. member-slot E (write E fuel left) d e (fieldNamed (e .name) fs) buf s (sizes E .turns fuel left d fs front e behind buf s x);
         textElements = text-elements;
+        emptyTexts = empty-texts;
         structElements = struct-elements;
         emptyElements = empty-elements;
+        root = root-laid;
       }

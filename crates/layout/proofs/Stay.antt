@@ -1,101 +1,141 @@
--- Items are only added: `items-stay`.
+-- What was laid stays: items are only added, blocks keep their numbers and names: `laid-stays`.
 -- Assumes nothing.
-use Prim.Native.Nat.{ℕ}
+use Prim.Native.Nat.{ℕ, _+_}
 use mathlib.Core.Path.{_≡_, refl, sym, _∙_, ap}
-use mathlib.Core.List.{List, [], _∷_, _++_, append-nil, append-assoc}
+use mathlib.Core.Bool.{Bool, true, false, cond, _&&_}
+use mathlib.Core.List.{List, [], _∷_, _++_, map, append-nil, append-assoc}
 use mathlib.Core.Option.{Option, none, some}
+use lib.Dec.{leb, eqb}
 use lib.ListN.{length}
+use borrow.Author.Tests.{eqb-true}
 use Rattle.numbers.specs.Words.{Bytes}
 use Rattle.value.specs.Rows.{Fields}
-use Rattle.schema.specs.Defs.{StructDef}
-use Rattle.layout.specs.State.{Item, Core, State, Env, Out, done, stop, M, spot, pointerAt, file, useStructC, useEnumC, addItem, addItemC}
-use Rattle.layout.specs.Runs.{elements}
-use Rattle.layout.specs.Write.{write, root}
-use Rattle.layout.specs.Slots.{Further, OnlyAdds, ItemsStay}
-use Rattle.layout.proofs.Keep.{Claim, Okay, Keeps}
-use Rattle.layout.proofs.Writers.{Prims, k-elements, k-textElement, k-pointerElement, k-structElement, k-pairElement, k-member, k-members, k-write, k-root}
+use Rattle.schema.specs.Defs.{StructDef, Member}
+use Rattle.layout.specs.State.{Item, Block, Core, State, Env, Out, done, stop, M, Spot, spot, past, pointerAt, maxBlock, file, useStructC, useEnumC, addItem, addItemC}
+use Rattle.layout.specs.Runs.{structElement, elements}
+use Rattle.layout.specs.Write.{pairElement, write, root}
+use Rattle.layout.specs.Parts.{Further, Stays, OnlyAdds, LaidStays}
+use Rattle.layout.proofs.Keep.{Claim, Okay, Keeps, k-ret, k-bind, k-if}
+use Rattle.layout.proofs.Writers.{Prims, k-says, k-elements, k-textElement, k-pointerElement, k-member, k-members, k-write, k-root}
 use Rattle.layout.proofs.CoreOnly.{Any, onCore, c-remark, c-pay, c-core, c-useStruct, c-useEnum, addItemC-ok}
 
--- the items begin with `is`
-abbrev Begins : List Item → Core → Type 0
-Begins is c = (more : List Item) × (c .items ≡ is ++ more)
+-- the names of blocks
+abbrev names : List Block → List ℕ
+names bs = map (λ b. b .name) bs
 
-abbrev staying : List Item → Claim
-staying is = onCore Any (Begins is)
+-- an item renames no block, and opens at most one
+spot-names : (n need : ℕ) (bs : List Block) → (more : List ℕ) × (names (spot n need bs .blocks) ≡ names bs ++ more)
+unfolding spot
+spot-names n need [] = (n ∷ [], refl)
+spot-names n need (b ∷ bs) = go (eqb (b .name) n) refl (leb (b .len + need) maxBlock) (spot-names n need bs)
+  where
+    go : (t : Bool) → eqb (b .name) n ≡ t → (f : Bool) → (more : List ℕ) × (names (spot n need bs .blocks) ≡ names bs ++ more)
+        → (more : List ℕ)
+        × (names (cond (t && f) (record { before = 0; start = b .len; blocks = record { name = n; len = b .len + need } ∷ bs }) (past b (spot n need bs)) .blocks) ≡ names (b ∷ bs) ++ more)
+    go true e true h = ([], ap (λ (k : ℕ). k ∷ names bs) (sym (eqb-true (b .name) n e)) ∙ sym (append-nil (names (b ∷ bs))))
+    go true e false (more, h) = (more, ap (b .name ∷_) h)
+    go false e f (more, h) = (more, ap (b .name ∷_) h)
 
-begins-file : (is : List Item) (bs : Bytes) (n : ℕ) (c : Core) → Begins is c
-    → Begins is (file bs (pointerAt (spot n (length bs) (c .blocks))) c (spot n (length bs) (c .blocks)))
+-- what stands once stands further on
+further-same : (c : Core) → Further c c
+further-same c = record { moreItems = []; items = sym (append-nil (c .items)); moreBlocks = []; blocks = sym (append-nil (names (c .blocks))) }
+
+further-then : (a b c : Core) → Further a b → Further b c → Further a c
+further-then a b c f g =
+    record {
+      moreItems = f .moreItems ++ g .moreItems;
+      items = g .items ∙ ap (λ l. l ++ g .moreItems) (f .items) ∙ append-assoc (a .items) (f .moreItems) (g .moreItems);
+      moreBlocks = f .moreBlocks ++ g .moreBlocks;
+      blocks = g .blocks ∙ ap (λ l. l ++ g .moreBlocks) (f .blocks) ∙ append-assoc (names (a .blocks)) (f .moreBlocks) (g .moreBlocks);
+    }
+
+further-file : (bs : Bytes) (n : ℕ) (c : Core) → Further c (file bs (pointerAt (spot n (length bs) (c .blocks))) c (spot n (length bs) (c .blocks)))
 unfolding file
-begins-file is bs n c (more, e) =
-    let i : List Item = _ ∷ [] in
-    (more ++ i, ap (λ l. l ++ i) e ∙ append-assoc is more i)
+further-file bs n c =
+    let (more, e) = spot-names n (length bs) (c .blocks) in
+    record { moreItems = _ ∷ []; items = refl; moreBlocks = more; blocks = e }
 
-stay-item : (is : List Item) (n : ℕ) (bs : Bytes) → Keeps (staying is) (addItem n bs)
+-- the claim that what stood in c stands
+abbrev standing : Core → Claim
+standing c = onCore Any (Further c)
+
+stay-item : (a : Core) (n : ℕ) (bs : Bytes) → Keeps (standing a) (addItem n bs)
 unfolding addItem
-stay-item is n bs = c-core Any (Begins is) (addItemC n bs) 10 (λ c q. addItemC-ok Any (Begins is) n bs c (λ a b. begins-file is bs n c q))
+stay-item a n bs =
+    c-core Any (Further a) (addItemC n bs) 10 (λ c q. addItemC-ok Any (Further a) n bs c (λ x y. further-then a c _ q (further-file bs n c)))
 
-stay-prims : (E : Env) (is : List Item) → Prims E (staying is)
+stay-prims : (E : Env) (a : Core) → Prims E (standing a)
 unfolding useStructC useEnumC
-stay-prims E is =
+stay-prims E a =
     record {
       starts = λ d. Unit {0};
-      refusable = λ n s a b q. tt;
-      remark-keeps = c-remark Any (Begins is);
-      pay-keeps = c-pay Any (Begins is) E;
-      struct-keeps = λ d u. c-useStruct Any (Begins is) (d .name) (λ c q. q);
-      enum-keeps = λ n e. c-useEnum Any (Begins is) n (λ c q. q);
-      add-keeps = λ n bs u. stay-item is n bs;
+      refusable = λ n s x y q. tt;
+      remark-keeps = c-remark Any (Further a);
+      pay-keeps = c-pay Any (Further a) E;
+      struct-keeps = λ d u. c-useStruct Any (Further a) (d .name) (λ c q. further-then a c _ q (record { moreItems = []; items = sym (append-nil (c .items)); moreBlocks = []; blocks = sym (append-nil (names (c .blocks))) }));
+      enum-keeps = λ n e. c-useEnum Any (Further a) n (λ c q. further-then a c _ q (record { moreItems = []; items = sym (append-nil (c .items)); moreBlocks = []; blocks = sym (append-nil (names (c .blocks))) }));
+      add-keeps = λ n bs u. stay-item a n bs;
       found = λ n d e. (tt, tt);
       named = λ d u. tt;
       small = λ n h. tt;
     }
 
 -- a structure of any definition may be started
-any-start : (E : Env) (is : List Item) (d : StructDef) → stay-prims E is .starts d
+any-start : (E : Env) (a : Core) (d : StructDef) → stay-prims E a .starts d
 unfolding stay-prims
-any-start E is d = tt
+any-start E a d = tt
 
--- what keeps the claim, whatever the items are, only adds
-only-adds : {A : Type 0} (m : M A) → ((is : List Item) → Keeps (staying is) m) → OnlyAdds m
+-- what keeps the claim, whatever stood, only adds
+only-adds : {A : Type 0} (m : M A) → ((a : Core) → Keeps (standing a) m) → OnlyAdds m
 unfolding Keeps
-only-adds {A = A} m h s = go (m s) (h (s .core .items) s ([], sym (append-nil (s .core .items))))
+only-adds {A = A} m h s = go (m s) (h (s .core) s (further-same (s .core)))
   where
-    go : (o : Out A) → Okay (staying (s .core .items)) o → Further (s .core .items) o
-    go (done a t) q = q
+    go : (o : Out A) → Okay (standing (s .core)) o → Stays (s .core) o
+    go (done x t) q = q
     go (stop n es) q = tt
 
 -- and the other way round
-kept : {A : Type 0} (m : M A) → OnlyAdds m → (is : List Item) → Keeps (staying is) m
+kept : {A : Type 0} (m : M A) → OnlyAdds m → (a : Core) → Keeps (standing a) m
 unfolding Keeps
-kept {A = A} m h is s (more, e) = go (m s) (h s)
+kept {A = A} m h a s q = go (m s) (h s)
   where
-    go : (o : Out A) → Further (s .core .items) o → Okay (staying is) o
-    go (done a t) (rest, f) = (more ++ rest, f ∙ ap (λ l. l ++ rest) e ∙ append-assoc is more rest)
-    go (stop n es) q = tt
+    go : (o : Out A) → Stays (s .core) o → Okay (standing a) o
+    go (done x t) r = further-then a (s .core) (t .core) q r
+    go (stop n es) r = tt
 
 module _ (E : Env) where
-  stay-write : (is : List Item) (fuel left : ℕ) (d : StructDef) (fs : Fields) → Keeps (staying is) (write E fuel left d fs)
-  stay-write is fuel left d fs = k-write E (staying is) (stay-prims E is) fuel left d fs (any-start E is d)
+  stay-write : (a : Core) (fuel left : ℕ) (d : StructDef) (fs : Fields) → Keeps (standing a) (write E fuel left d fs)
+  stay-write a fuel left d fs = k-write E (standing a) (stay-prims E a) fuel left d fs (any-start E a d)
 
-  stay-inner : (is : List Item) (fuel left n : ℕ) (d : StructDef) (fs : Fields) → E .defs .struct n ≡ some d → Keeps (staying is) (write E fuel left d fs)
-  stay-inner is fuel left n d fs q = stay-write is fuel left d fs
+  stay-inner : (a : Core) (fuel left n : ℕ) (d : StructDef) (fs : Fields) → E .defs .struct n ≡ some d → Keeps (standing a) (write E fuel left d fs)
+  stay-inner a fuel left n d fs q = stay-write a fuel left d fs
+
+  stay-element : (a : Core) (fuel left : ℕ) (d : StructDef) (e : Member) (i : StructDef) (r : ℕ) → Keeps (standing a) (structElement E (write E fuel left) d e i r)
+  unfolding structElement
+  stay-element a fuel left d e i r =
+      k-bind (standing a) _ _ (k-if (standing a) _ _ _ (k-ret (standing a) tt) (k-says E (standing a) (stay-prims E a) d e 9 0))
+      (λ u. k-bind (standing a) _ _ (stay-write a fuel left i _) (λ bs. k-ret (standing a) (some bs)))
+
+  stay-pair : (a : Core) (fuel left : ℕ) (i : StructDef) (p : ℕ × ℕ) → Keeps (standing a) (pairElement E (write E fuel left) i p)
+  unfolding pairElement
+  stay-pair a fuel left i p = k-bind (standing a) _ _ (stay-write a fuel left i _) (λ bs. k-ret (standing a) (some bs))
 
   -- the elements of a run one after the other
   each : {X : Type 0} (f : X → M (Option Bytes)) (xs : List X) → ((x : X) → OnlyAdds (f x)) → OnlyAdds (elements f xs)
-  each f xs h = only-adds _ (λ is. k-elements E (staying is) (stay-prims E is) f xs (λ x. kept (f x) (h x) is))
+  each f xs h = only-adds _ (λ a. k-elements E (standing a) (stay-prims E a) f xs (λ x. kept (f x) (h x) a))
 
-  pub items-stay : ItemsStay E
-  items-stay =
+  pub laid-stays : LaidStays E
+  laid-stays =
       record {
-        member = λ fuel left d e k v buf. only-adds _ (λ is. k-member E (staying is) (stay-prims E is) (write E fuel left) (stay-inner is fuel left) d e k v buf);
-        members = λ fuel left d fs es buf. only-adds _ (λ is. k-members E (staying is) (stay-prims E is) (write E fuel left) (stay-inner is fuel left) d fs es buf);
-        text = λ sub r. only-adds _ (λ is. k-textElement E (staying is) (stay-prims E is) (write E 0 0) (stay-inner is 0 0) sub r);
-        pointer = λ fuel left d e ref r. only-adds _ (λ is. k-pointerElement E (staying is) (stay-prims E is) (write E fuel left) (stay-inner is fuel left) d e ref r);
-        structure = λ fuel left d e n i r q. only-adds _ (λ is. k-structElement E (staying is) (stay-prims E is) (write E fuel left) (stay-inner is fuel left) d e n i r q);
-        pair = λ fuel left n i p q. only-adds _ (λ is. k-pairElement E (staying is) (stay-prims E is) (write E fuel left) (stay-inner is fuel left) n i p q);
+        member = λ fuel left d e k v buf. only-adds _ (λ a. k-member E (standing a) (stay-prims E a) (write E fuel left) (stay-inner a fuel left) d e k v buf);
+        members = λ fuel left d fs es buf. only-adds _ (λ a. k-members E (standing a) (stay-prims E a) (write E fuel left) (stay-inner a fuel left) d fs es buf);
+        text = λ sub r. only-adds _ (λ a. k-textElement E (standing a) (stay-prims E a) (write E 0 0) (stay-inner a 0 0) sub r);
+        pointer = λ fuel left d e ref r. only-adds _ (λ a. k-pointerElement E (standing a) (stay-prims E a) (write E fuel left) (stay-inner a fuel left) d e ref r);
+        structure = λ fuel left d e i r. only-adds _ (λ a. stay-element a fuel left d e i r);
+        pair = λ fuel left i p. only-adds _ (λ a. stay-pair a fuel left i p);
         elementsBehind = each;
         pairsBehind = each;
-        item = λ n bs. only-adds _ (λ is. stay-item is n bs);
-        whole = λ fuel left d fs. only-adds _ (λ is. stay-write is fuel left d fs);
-        root = λ d fs. only-adds _ (λ is. k-root E (staying is) (stay-prims E is) d fs (any-start E is d));
+        item = λ n bs. only-adds _ (λ a. stay-item a n bs);
+        whole = λ fuel left d fs. only-adds _ (λ a. stay-write a fuel left d fs);
+        root = λ d fs. only-adds _ (λ a. k-root E (standing a) (stay-prims E a) d fs (any-start E a d));
       }

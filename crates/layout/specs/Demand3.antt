@@ -20,7 +20,8 @@ use Rattle.layout.specs.Members.{rowOf}
 use Rattle.layout.specs.Runs.{Writer}
 use Rattle.layout.specs.Write.{pairsOf, mapMember}
 use Rattle.layout.specs.Assemble.{itemsIn, dataOf, psinOf, usedOf}
-use Rattle.layout.specs.Slots.{Slots, Sizes, ItemsStay}
+use Rattle.layout.specs.Slots.{Slots}
+use Rattle.layout.specs.Parts.{Sizes, Joined, LaidStays}
 use Rattle.layout.specs.Build.{Laid, envOf, layout, success, refusal, buildPso}
 
 -- what the reader finds
@@ -146,8 +147,10 @@ pub record Demand3 (T S : Bytes) (work out records : ℕ) (F : Bytes) : Type 0 w
   pub slotsPoint : Slots (envOf T schema work)
   -- a structure has as many bytes as its definition says, so a slot that fits lies inside it
   pub structsSized : Sizes (envOf T schema work)
-  -- no step takes an item away, so the item just laid for a slot is one of F's
-  pub itemsStay : ItemsStay (envOf T schema work)
+  -- a structure's bytes are what its members' steps leave, a run's are its elements', so what is put in a slot is put into the item
+  pub partsJoin : Joined (envOf T schema work)
+  -- no step takes an item away or renames a block
+  pub laidStays : LaidStays (envOf T schema work)
   -- "The root is laid last; it need not start its block."
   pub rootLast : RootLast T laid read
   -- "PSCH has each used definition once, with the members or entries of S's winning one; a structure and an enum of one name are two."

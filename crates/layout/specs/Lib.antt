@@ -7,6 +7,7 @@ pub mod Write
 pub mod Assemble
 pub mod Build
 pub mod Slots
+pub mod Parts
 pub mod Demand3
 pub mod Always
 pub mod Eval

@@ -142,7 +142,8 @@ module _ (T S : Bytes) (work out records : ℕ) (F : Bytes) (d : D.Demand3 T S w
         itemsStand = every-map (D.Stands (d .read)) (StandsIn F) (stands F (d .read) a (d .dataFirst)) (d .laid .state .core .items) (d .itemsStand);
         slotsPoint = d .slotsPoint;
         structsSized = d .structsSized;
-        itemsStay = d .itemsStay;
+        partsJoin = d .partsJoin;
+        laidStays = d .laidStays;
         rootEnds = root-ends;
         once = d .carriesUsed;
         structs = λ name. struct-by F (d .read) a name (winning (d .schema)) (d .laid .state .uses) (d .carriesUsed);

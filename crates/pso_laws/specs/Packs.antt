@@ -13,7 +13,8 @@ use Rattle.schema.specs.Psch.{schemaOf}
 use Rattle.pso.specs.Reader.{Pso, parsePso}
 use Rattle.layout.specs.State.{Item, Block, contains}
 use Rattle.layout.specs.Assemble.{itemsIn}
-use Rattle.layout.specs.Slots.{Slots, Sizes, ItemsStay}
+use Rattle.layout.specs.Slots.{Slots}
+use Rattle.layout.specs.Parts.{Sizes, Joined, LaidStays}
 use Rattle.layout.specs.Build.{Laid, After, envOf, layout, buildPso}
 use Rattle.layout.specs.Demand3.{ItemsTile, pointerBlock, pointerStart, CarriesUsed}
 use Rattle.sandvurek.specs.Exports.{outcomeOf, readingOf, blockOf, structureOf, enumOf, IsStruct, IsEnum}
@@ -95,8 +96,10 @@ pub record Pack (T S : Bytes) (work out records : ℕ) (F : Bytes) : Type 0 wher
   pub slotsPoint : Slots (envOf T schema work)
   -- a structure has as many bytes as its definition says, so a slot that fits lies inside it
   pub structsSized : Sizes (envOf T schema work)
-  -- no step takes an item away, so the item just laid for a slot is one of F's
-  pub itemsStay : ItemsStay (envOf T schema work)
+  -- a structure's bytes are what its members' steps leave, a run's are its elements', so what is put in a slot is put into the item
+  pub partsJoin : Joined (envOf T schema work)
+  -- no step takes an item away or renames a block
+  pub laidStays : LaidStays (envOf T schema work)
   -- "The root is laid last; it need not start its block."
   pub rootEnds : RootEnds T F laid
   -- "PSCH has each used definition once"
