@@ -1,10 +1,9 @@
 -- An item is laid. Assumes nothing.
 use mathlib.Core.Path.{_≡_, sym, ap, _∙_}
-use mathlib.Core.Bool.{Bool, true, false, _&&_}
+use mathlib.Core.Bool.{true, false}
 use mathlib.Core.List.{List, [], _∷_, _++_, append-assoc, append-nil}
 use Prim.Native.Nat.{ℕ, suc, _+_, _-_, _*_, _^_, _≤_, _<_}
 use native.Mathlib.Omega.{arith}
-use lib.Dec.{leb}
 use lib.ListN.{length, length-append}
 use Rattle.numbers.specs.Words.{Bytes, words, over}
 use Rattle.numbers.proofs.Bytes.{next, length-words}
@@ -15,7 +14,7 @@ use Rattle.area.specs.declared.Progress.{Progress}
 use Rattle.area.specs.Segments.{Segment, flat}
 use Rattle.area.specs.Kept.{kept, rowsBytes}
 use Rattle.area.specs.Area.{rowsOf, encode, stackAt, Rep, withItem, headed}
-use Rattle.area.specs.Posts.{Safe}
+use Rattle.area.specs.Posts.{Safe, lies}
 use Rattle.area.proofs.Flat as flat
 use Rattle.area.proofs.Spots.{length-rowsOf, rowsOf-snoc, Filed, inside, behind, spot-small, spot-start}
 
@@ -24,10 +23,6 @@ encode-snoc : (is : List Item) (i : Item) → encode (is ++ (i ∷ [])) ≡ enco
 unfolding encode
 encode-snoc [] i = ap (λ (x : Bytes). words (i .block ∷ i .start ∷ length (i .bytes) ∷ 0 ∷ []) ++ x) (append-nil (i .bytes))
 encode-snoc (j ∷ is) i = rw (encode-snoc is i) (simp append-assoc)
-
--- whether there is a place for it (10)
-abbrev pub lies : Spot → Bool
-lies p = leb (suc (p .before)) 4095 && leb (p .start) 0xFFFFF
 
 -- the core with it
 abbrev pub laidIn : ℕ → Bytes → State → State

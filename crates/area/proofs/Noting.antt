@@ -1,15 +1,17 @@
 -- A remark is met: the four ways of `note`. Assumes nothing.
 use mathlib.Core.Path.{_≡_, refl, sym, ap, _∙_}
 use mathlib.Core.Bool.{true, false, _||_}
-use mathlib.Core.List.{[], _∷_, _++_}
+use mathlib.Core.List.{[], _∷_, _++_, append-nil}
 use Prim.Native.Nat.{ℕ, _+_, _-_, _*_, _≤_, _<_}
 use native.Mathlib.Omega.{arith}
 use lib.Dec.{ltb}
-use lib.ListN.{length, length-append}
+use lib.ListN.{length, drop, length-append, drop-of-length-le}
+use lib.Seq.{drop-at}
 use borrow.Author.Tests.{lt-ltb, le-ltb}
 use Rattle.numbers.specs.Words.{Bytes, words, over, Stands}
 use Rattle.numbers.specs.Result.{Every}
 use Rattle.numbers.proofs.Bytes.{length-words, every-append}
+use Rattle.numbers.proofs.Laws.{over-nil}
 use Rattle.schema.specs.Defs.{Schema}
 use Rattle.layout.specs.State.{Remark, State, remarked, withRemark}
 use Rattle.area.specs.declared.Round.{Round}
@@ -18,9 +20,9 @@ use Rattle.area.specs.Segments.{flat}
 use Rattle.area.specs.Kept.{Kept, meet, kept, maxRows, rowBytes, rowsBytes}
 use Rattle.area.specs.Rows.{rowsIn, Tiny}
 use Rattle.area.specs.Area.{rowsOf, encode, stackAt, segments, Rep, withNotes}
-use Rattle.area.specs.Posts.{Safe, Notes}
+use Rattle.area.specs.Posts.{Safe, keepsIn, notedIn, Notes}
 use Rattle.area.proofs.Flat as flat
-use Rattle.area.proofs.Remarks.{kept-snoc, length-rows, rows-stand, rows-snoc}
+use Rattle.area.proofs.Remarks.{kept-snoc, length-rows, rows-stand, rows-snoc, length-rowsIn}
 
 module _ (R : Round) (n : ℕ) (p : Progress) (w : Bytes) (r : Remark) (safe : Safe R n p) where
   -- what is kept, as the numbers say it
@@ -50,14 +52,31 @@ module _ (R : Round) (n : ℕ) (p : Progress) (w : Bytes) (r : Remark) (safe : S
 
   notes : (w' : Bytes) (rows next : ℕ) → rows ≤ 1024 → next ≤ p .seen + 1
       → ((S : Schema) (s : State) (σ : Bytes) → Rep S R n s σ p w → Rep S R n (withRemark r s) σ (withNotes p rows (p .seen + 1) next) w')
-      → Notes R n p w r (withNotes p rows (p .seen + 1) next) w'
-  notes w' rows next h l f =
-      record { blocks = refl; structs = refl; enums = refl; end = refl; top = refl; charge = refl; seen = refl; next = l; rows = h; says = f }
+      → (withNotes p rows (p .seen + 1) next, w') ≡ notedIn R p w r → Notes R n p w r (withNotes p rows (p .seen + 1) next) w'
+  notes w' rows next h l f e =
+      record { blocks = refl; structs = refl; enums = refl; end = refl; top = refl; charge = refl; seen = refl; next = l; rows = h; says = f; exact = e }
+
+  -- no row more, and one row more
+  same-rows : (next seen : ℕ) → (withNotes p (p .rows) seen next, w) ≡ keepsIn p w (record { rows = rowsIn w 32768 (p .rows); next = next; seen = seen })
+  unfolding rowsBytes
+  same-rows next seen =
+      let l = length-rowsIn w 32768 (p .rows) in
+      let d : drop (p .rows) (rowsIn w 32768 (p .rows)) ≡ [] = drop-of-length-le (rowsIn w 32768 (p .rows)) {i = p .rows} (omega arith) in
+      rw (l, d, over-nil)
+
+  one-row : (next seen : ℕ) → (withNotes p (p .rows + 1) seen next, over w (32768 + 16 * p .rows) (rowBytes r))
+      ≡ keepsIn p w (record { rows = rowsIn w 32768 (p .rows) ++ (r ∷ []); next = next; seen = seen })
+  unfolding rowsBytes
+  one-row next seen =
+      let l = length-rowsIn w 32768 (p .rows) in
+      let m : length (rowsIn w 32768 (p .rows) ++ (r ∷ [])) ≡ p .rows + 1 = length-append (rowsIn w 32768 (p .rows)) (r ∷ []) ∙ omega arith in
+      let d : drop (p .rows) (rowsIn w 32768 (p .rows) ++ (r ∷ [])) ≡ r ∷ [] = drop-at (rowsIn w 32768 (p .rows)) (r ∷ []) (p .rows) l in
+      rw (m, d, append-nil)
 
   -- the rows were full before
   pub note-late : p .next < p .seen → Notes R n p w r (withNotes p (p .rows) (p .seen + 1) (p .next)) w
-  unfolding meet
-  note-late h = notes w (p .rows) (p .next) (safe .rows) (omega arith) says
+  unfolding meet notedIn
+  note-late h = notes w (p .rows) (p .next) (safe .rows) (omega arith) says (rw (lt-ltb (p .next) (p .seen) h) (same-rows (p .next) (p .seen + 1)))
     where
       says : (S : Schema) (s : State) (σ : Bytes) → Rep S R n s σ p w → Rep S R n (withRemark r s) σ (withNotes p (p .rows) (p .seen + 1) (p .next)) w
       says S s σ q =
@@ -79,8 +98,8 @@ module _ (R : Round) (n : ℕ) (p : Progress) (w : Bytes) (r : Remark) (safe : S
   -- it belongs to an earlier round, or stands there
   pub note-known : p .seen ≤ p .next → ltb (p .seen) (R .skip) || remarked r (rowsIn w 32768 (p .rows)) ≡ true
       → Notes R n p w r (withNotes p (p .rows) (p .seen + 1) (p .next + 1)) w
-  unfolding meet
-  note-known h e = notes w (p .rows) (p .next + 1) (safe .rows) (omega (arith, safe .next)) says
+  unfolding meet notedIn
+  note-known h e = notes w (p .rows) (p .next + 1) (safe .rows) (omega (arith, safe .next)) says (rw (le-ltb (p .next) (p .seen) h, e) (same-rows (p .next + 1) (p .seen + 1)))
     where
       says : (S : Schema) (s : State) (σ : Bytes) → Rep S R n s σ p w → Rep S R n (withRemark r s) σ (withNotes p (p .rows) (p .seen + 1) (p .next + 1)) w
       says S s σ q =
@@ -93,8 +112,10 @@ module _ (R : Round) (n : ℕ) (p : Progress) (w : Bytes) (r : Remark) (safe : S
   -- it is new, and there is a row for it
   pub note-new : p .seen ≤ p .next → ltb (p .seen) (R .skip) || remarked r (rowsIn w 32768 (p .rows)) ≡ false → p .rows < 1024 → Tiny r
       → Notes R n p w r (withNotes p (p .rows + 1) (p .seen + 1) (p .next + 1)) (over w (32768 + 16 * p .rows) (rowBytes r))
-  unfolding meet
-  note-new h e l y = notes (over w (32768 + 16 * p .rows) (rowBytes r)) (p .rows + 1) (p .next + 1) (omega arith) (omega (arith, safe .next)) says
+  unfolding meet notedIn
+  note-new h e l y =
+      notes (over w (32768 + 16 * p .rows) (rowBytes r)) (p .rows + 1) (p .next + 1) (omega arith) (omega (arith, safe .next)) says
+      (rw (le-ltb (p .next) (p .seen) h, e, length-rowsIn w 32768 (p .rows), lt-ltb (p .rows) maxRows l) (one-row (p .next + 1) (p .seen + 1)))
     where
       says : (S : Schema) (s : State) (σ : Bytes) → Rep S R n s σ p w
           → Rep S R n (withRemark r s) σ (withNotes p (p .rows + 1) (p .seen + 1) (p .next + 1)) (over w (32768 + 16 * p .rows) (rowBytes r))
@@ -116,8 +137,10 @@ module _ (R : Round) (n : ℕ) (p : Progress) (w : Bytes) (r : Remark) (safe : S
   -- it is new, and the rows are full
   pub note-full : p .seen ≤ p .next → ltb (p .seen) (R .skip) || remarked r (rowsIn w 32768 (p .rows)) ≡ false → 1024 ≤ p .rows
       → Notes R n p w r (withNotes p (p .rows) (p .seen + 1) (p .next)) w
-  unfolding meet
-  note-full h e l = notes w (p .rows) (p .next) (safe .rows) (omega (arith, safe .next)) says
+  unfolding meet notedIn
+  note-full h e l =
+      notes w (p .rows) (p .next) (safe .rows) (omega (arith, safe .next)) says
+      (rw (le-ltb (p .next) (p .seen) h, e, length-rowsIn w 32768 (p .rows), le-ltb (p .rows) maxRows l) (same-rows (p .next) (p .seen + 1)))
     where
       says : (S : Schema) (s : State) (σ : Bytes) → Rep S R n s σ p w → Rep S R n (withRemark r s) σ (withNotes p (p .rows) (p .seen + 1) (p .next)) w
       says S s σ q =

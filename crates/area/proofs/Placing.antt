@@ -1,7 +1,7 @@
 -- What the code's laying says of the definition's. Assumes nothing.
 use mathlib.Core.Path.{_≡_, refl, sym, ap, _∙_}
 use mathlib.Core.Bool.{Bool, true, false, cond, _&&_}
-use mathlib.Core.List.{[], _∷_, _++_, append-assoc}
+use mathlib.Core.List.{List, [], _∷_, _++_, append-assoc}
 use Prim.Native.Nat.{ℕ, suc, _+_, _-_, _*_, _^_, _≤_, _<_}
 use native.Mathlib.Omega.{arith}
 use lib.Dec.{leb, ltb}
@@ -18,20 +18,23 @@ use Rattle.area.specs.declared.Spot.{Spot}
 use Rattle.area.specs.Segments.{flat}
 use Rattle.area.specs.Kept.{kept, rowsBytes}
 use Rattle.area.specs.Area.{rowsOf, encode, stackAt, Rep, withItem, headed}
-use Rattle.area.specs.Posts.{Safe, gives, refuses, Meets, Finds, blocksWith, Larger, Lays, LaysText}
+use Rattle.area.specs.Rows.{blocksIn}
+use Rattle.area.specs.Posts.{Safe, gives, refuses, Meets, Finds, blocksWith, Larger, lies, laidAt, moved, layIn, layTextIn, Lays, LaysText}
 use Rattle.area.proofs.Flat as flat
-use Rattle.area.proofs.Spots.{length-rowsOf, Filed, inside, behind, filed}
-use Rattle.area.proofs.Laying.{lies, laidIn, add-fits, add-none, areaWith, before-items, headOf, head-put, bytes-put, rep-laid}
+use Rattle.area.proofs.Spots.{length-rowsOf, blocks-stand, Filed, inside, behind, filed}
+use Rattle.area.proofs.Laying.{laidIn, add-fits, add-none, areaWith, before-items, headOf, head-put, bytes-put, rep-laid}
 
 module _ (R : Round) (n : ℕ) (p : Progress) (w : Bytes) (safe : Safe R n p) (name len : ℕ) (r : Spot) (found : Finds w (p .blocks) name len r) where
   -- the spot, in any state that stands in the area
   at-spot : (S : Schema) (s : State) (σ : Bytes) → Rep S R n s σ p w → (r .before ≡ spot name len (s .core .blocks) .before) × (r .start ≡ spot name len (s .core .blocks) .start)
   at-spot S s σ q =
-      found .says (s .core .blocks) (sym (q .blocks)) (q .small)
-      (rw (q .work)
+      let st : Stands w 0 (rowsOf (s .core .blocks)) =
+      rw (q .work)
       (flat.holds []
       ((16384, rowsBytes (kept (R .skip) (s .events) .rows)) ∷ (16384, []) ∷ (4 * R .entries, words (s .core .structs)) ∷ (4 * R .entries, words (s .core .enums)) ∷ (R .cap, encode (s .core .items)) ∷ (n - stackAt R, σ) ∷ [])
-      32768 (rowsOf (s .core .blocks)) 0 (omega (arith, length-rowsOf (s .core .blocks), q .blocks, safe .blocks)) refl))
+      32768 (rowsOf (s .core .blocks)) 0 (omega (arith, length-rowsOf (s .core .blocks), q .blocks, safe .blocks)) refl) in
+      let e : blocksIn w 0 (p .blocks) ≡ s .core .blocks = ap (blocksIn w 0) (q .blocks) ∙ blocks-stand w 0 (s .core .blocks) (q .small) st in
+      (found .is .0 ∙ ap (λ (bs : List L.Block). spot name len bs .before) e, found .is .1 ∙ ap (λ (bs : List L.Block). spot name len bs .start) e)
 
   lies-not : (q : L.Spot) → r .before ≡ q .before → r .start ≡ q .start → (r .before < 4095 → 0xFFFFF < r .start) → lies q ≡ false
   lies-not q e f h = go (leb (suc (q .before)) 4095) refl
@@ -43,6 +46,18 @@ module _ (R : Round) (n : ℕ) (p : Progress) (w : Bytes) (safe : Safe R n p) (n
   lies-there : (q : L.Spot) → r .before ≡ q .before → r .start ≡ q .start → r .before < 4095 → r .start ≤ 0xFFFFF → lies q ≡ true
   lies-there q e f h g = rw (le-leb (suc (q .before)) 4095 (omega arith), le-leb (q .start) 0xFFFFF (omega arith))
 
+  -- what was done is what the definition on bytes says
+  pub none-exact : (r .before < 4095 → 0xFFFFF < r .start) → (top : ℕ) (put : Bytes → Bytes) → (refuses 10 p, w) ≡ laidAt p w name len top put (spot name len (blocksIn w 0 (p .blocks)))
+  none-exact h top put = rw (lies-not (spot name len (blocksIn w 0 (p .blocks))) (found .is .0) (found .is .1) h)
+
+  pub done-exact : r .before < 4095 → r .start ≤ 0xFFFFF → (top : ℕ) (put : Bytes → Bytes) (w2 : Bytes) → w2 ≡ headed w (p .end) name (r .before) (r .start) len
+      → (gives (r .before + 1 + r .start * 4096) (withItem p (blocksWith (p .blocks) (r .before)) (p .end + (16 + len)) top), put w2)
+      ≡ laidAt p w name len top put (spot name len (blocksIn w 0 (p .blocks)))
+  done-exact hb hs top put w2 e =
+      let s = spot name len (blocksIn w 0 (p .blocks)) in
+      let x : r .before + 1 + r .start * 4096 ≡ suc (s .before) + s .start * 4096 = omega (arith, found .is .0, found .is .1) in
+      rw (lies-there s (found .is .0) (found .is .1) hb hs, x, e, found .is .0, found .is .1)
+
   -- no place for it
   pub no-place : {X : Type 0} (S : Schema) (s : State) (τ b : Bytes) (stack : ℕ → Bytes) (fits : ℕ → X → Type 0) → (r .before < 4095 → 0xFFFFF < r .start) → length b ≡ len → Rep S R n s τ p w
       → Meets S R n stack fits (addItem name b s) (refuses 10 p) w
@@ -52,7 +67,12 @@ module _ (R : Round) (n : ℕ) (p : Progress) (w : Bytes) (safe : Safe R n p) (n
       rw z (refl, record { state = s; stack = τ; rep = q; met = refl })
 
   pub lay-refused : (r .before < 4095 → 0xFFFFF < r .start) → Lays R n p w name len (refuses 10 p) w
-  lay-refused h = record { grew = (refl, refl); says = λ S s σ b e q. no-place S s (σ ++ b) b (λ _. σ) (λ a x. a ≡ x) h e q }
+  unfolding layIn
+  lay-refused h = record {
+    grew = (refl, refl);
+    says = λ S s σ b e q. no-place S s (σ ++ b) b (λ _. σ) (λ a x. a ≡ x) h e q;
+    exact = none-exact h (p .top - len) (moved p len);
+  }
 
   count-is : (S : Schema) (s : State) (σ : Bytes) → Rep S R n s σ p w → blocksWith (p .blocks) (r .before) ≡ length (spot name len (s .core .blocks) .blocks)
   count-is S s σ q = go (spot name len (s .core .blocks)) (filed name len (s .core .blocks)) (at-spot S s σ q .0)
@@ -93,9 +113,11 @@ module _ (R : Round) (n : ℕ) (p : Progress) (w : Bytes) (safe : Safe R n p) (n
       → w2 ≡ headed w (p .end) name (r .before) (r .start) len
       → Lays R n p w name len (gives (r .before + 1 + r .start * 4096) (withItem p (blocksWith (p .blocks) (r .before)) (p .end + (16 + len)) (p .top - len)))
       (over (over w2 (p .end + 16) (take len (drop (p .top - len) w2))) (p .top - len) (zeros len))
+  unfolding layIn
   lay-done hn hl hb hs he hf ht w2 e2 = record {
     grew = larger hb (p .top - len);
     says = says;
+    exact = done-exact hb hs (p .top - len) (moved p len) w2 e2;
   }
     where
       says : (S : Schema) (s : State) (σ b : Bytes) → length b ≡ len → Rep S R n s (σ ++ b) p w
@@ -129,14 +151,21 @@ module _ (R : Round) (n : ℕ) (p : Progress) (w : Bytes) (safe : Safe R n p) (t
   closed = length-append t (0 ∷ [])
 
   pub text-refused : (r .before < 4095 → 0xFFFFF < r .start) → LaysText R n p w t (refuses 10 p) w
-  text-refused h = record { grew = (refl, refl); says = λ S s σ q. no-place R n p w safe 1 (length t + 1) r found S s σ (t ++ (0 ∷ [])) (λ _. σ) (λ a x. a ≡ x) h closed q }
+  unfolding layTextIn
+  text-refused h = record {
+    grew = (refl, refl);
+    says = λ S s σ q. no-place R n p w safe 1 (length t + 1) r found S s σ (t ++ (0 ∷ [])) (λ _. σ) (λ a x. a ≡ x) h closed q;
+    exact = none-exact R n p w safe 1 (length t + 1) r found h (p .top) (λ x. over x (p .end + 16) t);
+  }
 
   pub text-done : length t < 2 ^ 30 → r .before < 4095 → r .start ≤ 0xFFFFF → p .end + (16 + (length t + 1)) ≤ stackAt R → (w2 : Bytes)
       → w2 ≡ headed w (p .end) 1 (r .before) (r .start) (length t + 1)
       → LaysText R n p w t (gives (r .before + 1 + r .start * 4096) (withItem p (blocksWith (p .blocks) (r .before)) (p .end + (16 + (length t + 1))) (p .top))) (over w2 (p .end + 16) t)
+  unfolding layTextIn
   text-done hl hb hs he w2 e2 = record {
     grew = larger R n p w safe 1 (length t + 1) r found hb (p .top);
     says = says;
+    exact = done-exact R n p w safe 1 (length t + 1) r found hb hs (p .top) (λ x. over x (p .end + 16) t) w2 e2;
   }
     where
       says : (S : Schema) (s : State) (σ : Bytes) → Rep S R n s σ p w

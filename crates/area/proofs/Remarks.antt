@@ -2,7 +2,7 @@
 use mathlib.Core.Path.{_≡_, refl, ap, _∙_}
 use mathlib.Core.Bool.{true, false, cond}
 use mathlib.Core.List.{List, [], _∷_, _++_, append-assoc, append-nil}
-use Prim.Native.Nat.{ℕ, suc, _+_, _-_, _*_, _≤_, _<_}
+use Prim.Native.Nat.{ℕ, zero, suc, _+_, _-_, _*_, _≤_, _<_}
 use native.Mathlib.Omega.{arith}
 use lib.ListN.{length, length-append}
 use Rattle.numbers.specs.Words.{Bytes, words, readAt, Stands, Below}
@@ -47,6 +47,12 @@ rows-stand w at [] t h = refl
 rows-stand w at (r ∷ rs) t h =
     let l : length (rowBytes r) ≡ 16 = length-words (r .kind ∷ r .structure ∷ r .member ∷ r .detail ∷ []) in
     rw (row-stands w at r (rowsBytes rs) (t .0) h, rows-stand w (at + 16) rs (t .1) (next w (rowBytes r) (rowsBytes rs) at (at + 16) 16 l refl h))
+
+-- as many as are read
+pub length-rowsIn : (w : Bytes) (at n : ℕ) → length (rowsIn w at n) ≡ n
+unfolding rowsIn
+length-rowsIn w at zero = refl
+length-rowsIn w at (suc n) = ap suc (length-rowsIn w (at + 16) n)
 
 -- a loop over the rows, i of them looked at
 module _ (w : Bytes) (at n : ℕ) (r : Remark) where

@@ -3,6 +3,7 @@ use mathlib.Core.Path.{_≡_, refl, sym, ap, _∙_}
 use mathlib.Core.Bool.{Bool, true, false, false≢true, _&&_}
 use mathlib.Core.List.{List, [], _∷_, _++_, append-assoc, append-nil}
 use Prim.Native.Nat.{ℕ, suc, _+_, _-_, _*_, _^_, _≤_, _<_}
+use native.Mathlib.Nat.{sub-zero}
 use native.Mathlib.Omega.{arith}
 use lib.Dec.{leb, eqb}
 use lib.ListN.{length, length-append}
@@ -11,6 +12,7 @@ use Rattle.numbers.specs.Words.{Bytes, words, readAt, over, Stands, Below}
 use Rattle.numbers.specs.Result.{Every}
 use Rattle.numbers.proofs.Bytes.{left, next, word-at, length-words}
 use Rattle.layout.specs.State.{Block, Spot, spot, past, maxBlock}
+use Rattle.area.specs.Rows.{blocksIn}
 use Rattle.area.specs.Area.{rowsOf, Small}
 use Rattle.area.proofs.Over.{over-right, over-part}
 
@@ -72,62 +74,55 @@ spot-past : (name need : ℕ) (b : Block) (bs : List Block) → eqb (b .name) na
 unfolding spot
 spot-past name need b bs h = rw h
 
--- the search so far: k blocks are passed, cs are left, and the spot is theirs
-pub record Seeking (w : Bytes) (n name need : ℕ) (bs : List Block) (k : ℕ) : Type 0 where
-  pub left : List Block
-  pub here : Stands w (8 * k) (rowsOf left)
-  pub small : Every Small left
-  pub many : k + length left ≡ n
-  pub before : spot name need bs .before ≡ k + spot name need left .before
-  pub start : spot name need bs .start ≡ spot name need left .start
+-- blocks whose rows stand there are read
+pub blocks-stand : (w : Bytes) (at : ℕ) (bs : List Block) → Every Small bs → Stands w at (rowsOf bs) → blocksIn w at (length bs) ≡ bs
+unfolding blocksIn
+blocks-stand w at [] t h = refl
+blocks-stand w at (b ∷ bs) t h = let r = row-at w at b bs (t .0) h in rw (r .name, r .len, blocks-stand w (at + 8) bs (t .1) (r .rest))
 
-module _ (w : Bytes) (n name need : ℕ) (bs : List Block) where
-  pub seek-begin : Stands w 0 (rowsOf bs) → Every Small bs → length bs ≡ n → Seeking w n name need bs 0
-  seek-begin h t e = record { left = bs; here = h; small = t; many = omega arith; before = omega arith; start = refl }
+module _ (w : Bytes) (n name need : ℕ) where
+  -- the blocks behind the first k
+  abbrev rest : ℕ → List Block
+  rest k = blocksIn w (8 * k) (n - k)
+
+  abbrev row : ℕ → Block
+  row k = record { name = readAt 4 w (8 * k); len = readAt 4 w (8 * k + 4) }
+
+  rest-next : (k : ℕ) → k < n → rest k ≡ row k ∷ rest (k + 1)
+  unfolding blocksIn
+  rest-next k h =
+      let e : n - k ≡ suc (n - (k + 1)) = omega arith in
+      let f : 8 * k + 8 ≡ 8 * (k + 1) = omega arith in
+      ap (blocksIn w (8 * k)) e ∙ ap (λ (i : ℕ). row k ∷ blocksIn w i (n - (k + 1))) f
+
+  -- the search so far: k blocks are passed, and the spot is that among the others
+  pub record Seeking (k : ℕ) : Type 0 where
+    pub before : spot name need (blocksIn w 0 n) .before ≡ k + spot name need (rest k) .before
+    pub start : spot name need (blocksIn w 0 n) .start ≡ spot name need (rest k) .start
+
+  pub seek-begin : Seeking 0
+  seek-begin = record { before = rw sub-zero (omega arith); start = rw sub-zero }
 
   -- the block at k takes the item
-  pub seek-here : (k : ℕ) → k < n → Seeking w n name need bs k → readAt 4 w (8 * k) ≡ name → readAt 4 w (8 * k + 4) + need ≤ 0x100000
-      → (spot name need bs .before ≡ k) × (spot name need bs .start ≡ readAt 4 w (8 * k + 4))
-  seek-here k h s e f = go (s .left) (s .here) (s .small) (omega (arith, s .many)) (s .before) (s .start)
-    where
-      go : (cs : List Block) → Stands w (8 * k) (rowsOf cs) → Every Small cs → 0 < length cs → spot name need bs .before ≡ k + spot name need cs .before
-          → spot name need bs .start ≡ spot name need cs .start → (spot name need bs .before ≡ k) × (spot name need bs .start ≡ readAt 4 w (8 * k + 4))
-      go [] a b c p q = absurd (omega (arith, c))
-      go (b ∷ cs) a t c p q =
-          let r = row-at w (8 * k) b cs (t .0) a in
-          let x = spot-here name need b cs (takes name need b (sym (r .name) ∙ e) (omega (arith, r .len))) in
-          (p ∙ ap (λ (y : Spot). k + y .before) x ∙ omega arith, q ∙ ap (λ (y : Spot). y .start) x ∙ sym (r .len))
+  pub seek-here : (k : ℕ) → k < n → Seeking k → readAt 4 w (8 * k) ≡ name → readAt 4 w (8 * k + 4) + need ≤ 0x100000
+      → (spot name need (blocksIn w 0 n) .before ≡ k) × (spot name need (blocksIn w 0 n) .start ≡ readAt 4 w (8 * k + 4))
+  seek-here k h s e f =
+      let x = ap (spot name need) (rest-next k h) ∙ spot-here name need (row k) (rest (k + 1)) (takes name need (row k) e f) in
+      (s .before ∙ ap (λ (y : Spot). k + y .before) x ∙ omega arith, s .start ∙ ap (λ (y : Spot). y .start) x)
 
   -- it does not
-  pub seek-on : (k : ℕ) → k < n → Seeking w n name need bs k → (readAt 4 w (8 * k) ≡ name → 0x100000 < readAt 4 w (8 * k + 4) + need)
-      → Seeking w n name need bs (k + 1)
-  seek-on k h s f = go (s .left) (s .here) (s .small) (s .many) (s .before) (s .start)
-    where
-      go : (cs : List Block) → Stands w (8 * k) (rowsOf cs) → Every Small cs → k + length cs ≡ n → spot name need bs .before ≡ k + spot name need cs .before
-          → spot name need bs .start ≡ spot name need cs .start → Seeking w n name need bs (k + 1)
-      go [] a b c p q = absurd (omega (arith, c))
-      go (b ∷ cs) a t c p q =
-          let r = row-at w (8 * k) b cs (t .0) a in
-          let x = spot-past name need b cs (passes name need b (λ g. let z = f (r .name ∙ g) in omega (arith, r .len))) in
-          let e : 8 * k + 8 ≡ 8 * (k + 1) = omega arith in
-          record {
-            left = cs;
-            here = rw (← e) (r .rest);
-            small = t .1;
-            many = omega (arith, c);
-            before = p ∙ ap (λ (y : Spot). k + y .before) x ∙ omega arith;
-            start = q ∙ ap (λ (y : Spot). y .start) x;
-          }
+  pub seek-on : (k : ℕ) → k < n → Seeking k → (readAt 4 w (8 * k) ≡ name → 0x100000 < readAt 4 w (8 * k + 4) + need) → Seeking (k + 1)
+  seek-on k h s f =
+      let x = ap (spot name need) (rest-next k h) ∙ spot-past name need (row k) (rest (k + 1)) (passes name need (row k) f) in
+      record { before = s .before ∙ ap (λ (y : Spot). k + y .before) x ∙ omega arith; start = s .start ∙ ap (λ (y : Spot). y .start) x }
 
   -- no block takes it
-  pub seek-none : (k : ℕ) → n ≤ k → Seeking w n name need bs k → (spot name need bs .before ≡ n) × (spot name need bs .start ≡ 0)
-  unfolding spot
-  seek-none k h s = go (s .left) (omega (arith, s .many)) (s .before) (s .start) (omega (arith, s .many))
-    where
-      go : (cs : List Block) → length cs ≡ 0 → spot name need bs .before ≡ k + spot name need cs .before
-          → spot name need bs .start ≡ spot name need cs .start → k ≡ n → (spot name need bs .before ≡ n) × (spot name need bs .start ≡ 0)
-      go [] c p q e = (p ∙ omega (arith, e), q)
-      go (b ∷ cs) c p q e = absurd (omega (arith, c))
+  pub seek-none : (k : ℕ) → k ≤ n → n ≤ k → Seeking k → (spot name need (blocksIn w 0 n) .before ≡ n) × (spot name need (blocksIn w 0 n) .start ≡ 0)
+  unfolding spot blocksIn
+  seek-none k g h s =
+      let e : n - k ≡ 0 = omega arith in
+      let x = ap (λ (i : ℕ). spot name need (blocksIn w (8 * k) i)) e in
+      (s .before ∙ ap (λ (y : Spot). k + y .before) x ∙ omega arith, s .start ∙ ap (λ (y : Spot). y .start) x)
 
 -- ---- the blocks with the item
 

@@ -5,6 +5,7 @@ use mathlib.Core.List.{List, [], _∷_, _++_}
 use Prim.Native.Nat.{ℕ, _+_, _-_, _*_, _^_, _≤_, _<_}
 use native.Mathlib.Omega.{arith}
 use lib.ListN.{length, length-append, length-map}
+use borrow.Author.Tests.{lt-leb}
 use Rattle.numbers.specs.Words.{Bytes, words, bytesOf, over, Stands, Below}
 use Rattle.numbers.specs.Result.{isSome}
 use Rattle.numbers.proofs.Bytes.{length-words, every-append}
@@ -22,7 +23,7 @@ use Rattle.area.specs.Segments.{Segment, flat, rooms}
 use Rattle.area.specs.Kept.{kept, rowsBytes}
 use Rattle.area.specs.Rows.{namesIn}
 use Rattle.area.specs.Area.{rowsOf, encode, stackAt, segments, Rep, withUsed, startedIn, usedIn}
-use Rattle.area.specs.Posts.{Safe, Inserts, Marks}
+use Rattle.area.specs.Posts.{Safe, insertedIn, Inserts, Marks}
 use Rattle.area.proofs.Flat as flat
 use Rattle.area.proofs.Names.{names-stand, words-snoc, insert-there, insert-new}
 
@@ -52,22 +53,23 @@ module _ (xs ys : List Segment) (room at count : ℕ) (ns : List ℕ) (w : Bytes
       ap (namesIn w at) many ∙ names-stand w at ns below st
 
   inserted : (x r : ℕ) (w' : Bytes) → x < 256 ^ 4 → Inserts at count room x w r w' → length (insert x ns) ≤ room → Inserted xs ys room x ns r w'
+  unfolding insertedIn
   inserted x r w' h i l = go (contains x ns) refl
     where
       go : (b : Bool) → contains x ns ≡ b → Inserted xs ys room x ns r w'
       go true e =
-          let f = i .there (ap (contains x) names-are ∙ e) in
+          let f : _≡_ {A = ℕ × Bytes} (r, w') (count, w) = i .exact ∙ rw (ap (contains x) names-are ∙ e) in
           let g = insert-there x ns e in
-          record { count = f .0 ∙ many ∙ ap length (sym g); names = rw g below; work = rw g (f .1 ∙ work) }
+          record { count = ap (λ y. y .0) f ∙ many ∙ ap length (sym g); names = rw g below; work = rw g (ap (λ y. y .1) f ∙ work) }
       go false e =
           let g = insert-new x ns e in
           let k : length (insert x ns) ≡ length ns + 1 = ap length g ∙ length-append ns (x ∷ []) in
-          let f = i .new (ap (contains x) names-are ∙ e) (omega arith) in
+          let f : _≡_ {A = ℕ × Bytes} (r, w') (count + 1, over w (at + 4 * count) (bytesOf 4 x)) = i .exact ∙ rw (ap (contains x) names-are ∙ e, lt-leb room count (omega arith)) in
           record {
-            count = omega (arith, f .0);
+            count = omega (arith, ap (λ y. y .0) f);
             names = rw g (every-append (λ w. w < 256 ^ 4) ns (x ∷ []) below (h, tt));
             work =
-                f .1 ∙ ap (λ (y : Bytes). over y (at + 4 * count) (bytesOf 4 x)) work
+                ap (λ y. y .1) f ∙ ap (λ (y : Bytes). over y (at + 4 * count) (bytesOf 4 x)) work
                 ∙ flat.append xs ys (4 * room) (words ns) (bytesOf 4 x) (at + 4 * count) (omega (arith, length-words ns, length-bytes 4 x)) (omega (arith, length-words ns))
                 ∙ ap (λ (y : Bytes). flat (xs ++ ((4 * room, y) ∷ ys))) (sym (words-snoc ns x) ∙ ap words (sym g));
           }

@@ -2,7 +2,7 @@
 use Prim.Native.Nat.{ℕ, zero, suc, _+_, _^_, _<_}
 use mathlib.Core.List.{List, [], _∷_}
 use Rattle.numbers.specs.Words.{Bytes, readAt}
-use Rattle.layout.specs.State.{Remark}
+use Rattle.layout.specs.State.{Remark, Block}
 
 -- the remark row at a place
 abbrev pub rowIn : Bytes → ℕ → Remark
@@ -17,6 +17,11 @@ rowsIn w at (suc n) = rowIn w at ∷ rowsIn w (at + 16) n
 unfoldable pub namesIn : Bytes → ℕ → ℕ → List ℕ
 namesIn w at zero = []
 namesIn w at (suc n) = readAt 4 w at ∷ namesIn w (at + 4) n
+
+-- n blocks from a place on, by their rows
+unfoldable pub blocksIn : Bytes → ℕ → ℕ → List Block
+blocksIn w at zero = []
+blocksIn w at (suc n) = record { name = readAt 4 w at; len = readAt 4 w (at + 4) } ∷ blocksIn w (at + 8) n
 
 -- four numbers of 4 bytes
 pub record Tiny (r : Remark) : Type 0 where

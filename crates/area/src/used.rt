@@ -11,7 +11,7 @@ ghost use Rattle.schema.specs.Defs.{winning};
 ghost use Rattle.layout.specs.State;
 ghost use Rattle.area.specs.Rows.{namesIn};
 ghost use Rattle.area.specs.Area.{startedIn, usedIn};
-ghost use Rattle.area.specs.Posts.{Safe, Inserts, Marks};
+ghost use Rattle.area.specs.Posts.{Safe, Inserts, structIn, enumIn, Marks};
 
 // Whether the name is one of the n at `at`.
 fn contains(work: &[u8], at: usize, n: usize, name: u32) -> bool
@@ -47,6 +47,7 @@ fn insert(work: &mut [u8], at: usize, n: usize, room: usize, name: u32) -> usize
 pub fn use_struct(work: &mut [u8], round: Round, p: Progress, name: u32) -> Progress
     requires { ⌜ Safe round (length (now work)) p ⌝ }
     ensures { λ q. ⌜ Marks round (length (now (work .entry))) p (now (work .entry)) (λ S. isSome (winning S .struct name)) (startedIn name) q (now (work .exit)) ⌝ }
+    ensures { λ q. ⌜ (q, now (work .exit)) ≡ structIn round p (now (work .entry)) name ⌝ }
 {
     let n = insert(work, 65536, p.structs, round.entries, name);
     let mut q = p;
@@ -58,6 +59,7 @@ pub fn use_struct(work: &mut [u8], round: Round, p: Progress, name: u32) -> Prog
 pub fn use_enum(work: &mut [u8], round: Round, p: Progress, name: u32) -> Progress
     requires { ⌜ Safe round (length (now work)) p ⌝ }
     ensures { λ q. ⌜ Marks round (length (now (work .entry))) p (now (work .entry)) (λ S. isSome (winning S .enum name)) (usedIn name) q (now (work .exit)) ⌝ }
+    ensures { λ q. ⌜ (q, now (work .exit)) ≡ enumIn round p (now (work .entry)) name ⌝ }
 {
     let n = insert(
         work,

@@ -7,14 +7,17 @@ use lib.Dec.{leb}
 use lib.ListN.{length}
 use Rattle.numbers.specs.Words.{Bytes, over, zeros}
 use Rattle.numbers.specs.Result.{isSome}
+use Rattle.value.specs.declared.Found.{Found}
+use Rattle.value.specs.declared.Found.the-variants as F
 use Rattle.schema.specs.Defs.{Schema, winning}
 use Rattle.definitions.specs.declared.members.Member as coded
 use Rattle.layout.specs.State.{Remark, State, M}
+use Rattle.layout.specs.Kinds.{typeNumber}
 use Rattle.layout.specs.Members as members
 use Rattle.area.specs.declared.Round.{Round}
 use Rattle.area.specs.declared.Progress.{Progress}
 use Rattle.area.specs.Area.{stackAt, Rep, withPaid, withTop, usedIn, envOf}
-use Rattle.area.specs.Posts.{Safe, Grown, Marks, Ans, gives, refuses, Meets}
+use Rattle.area.specs.Posts.{Safe, Grown, notedIn, Marks, Ans, gives, refuses, Meets}
 use Rattle.cells.specs.declared.defs.Def.{Def}
 use Rattle.members.specs.declared.Wrote.{Wrote}
 use Rattle.members.specs.declared.Wrote.the-variants.{Done, Refused}
@@ -22,6 +25,11 @@ use Rattle.members.specs.declared.Wrote.the-variants.{Done, Refused}
 -- the remark on member m of structure d
 abbrev pub remarkOn : Def → coded.Member → ℕ → ℕ → Remark
 remarkOn d m kind detail = record { kind = kind; structure = d .name; member = m .name; detail = detail }
+
+-- remark 2 is met, unless the member is missing
+abbrev pub wrongIn : Round → Progress → Bytes → Def → coded.Member → Found → Wrote × Bytes
+wrongIn R p w d m (F.At r) = let x = notedIn R p w (remarkOn d m 2 (typeNumber (m .kind))) in (Done (x .0), x .1)
+wrongIn R p w d m F.Missing = (Done p, w)
 
 -- the charge paid, or refusal 9
 abbrev pub paidIs : Round → Progress → ℕ → Wrote

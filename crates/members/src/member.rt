@@ -35,7 +35,7 @@ ghost use Rattle.area.specs.Posts.{Safe, Open};
 ghost use Rattle.cells.specs.Names.{defOf, memberOf};
 ghost use Rattle.cells.specs.Cells.{Sane, cellSize, cellBytes};
 ghost use Rattle.cells.specs.Plans.{cellMember, plainMember};
-ghost use Rattle.members.specs.Posts.{Buffer, Fills, Marked, anySchema};
+ghost use Rattle.members.specs.Posts.{wrongIn, Buffer, Fills, Marked, anySchema};
 
 // Whether n bytes at the member's offset lie in the structure.
 pub fn fits(d: Def, m: Member, n: usize) -> bool
@@ -52,6 +52,7 @@ pub fn wrong(work: &mut [u8], round: Round, p: Progress, d: Def, m: Member, v: F
     requires { ⌜ Safe round (length (now work)) p × Open p ⌝ }
     ensures { λ r. ⌜ ((F : Bytes) → Fills anySchema round (length (now (work .entry))) p (now (work .entry)) (d .size)
         (λ S buf. Members.wrong (defOf F d) (memberOf m) (valueIs v) buf) r (now (work .exit))) ⌝ }
+    ensures { λ r. ⌜ (r, now (work .exit)) ≡ wrongIn round p (now (work .entry)) d m v ⌝ }
 {
     match v {
         Found::Missing => Wrote::Done(p),

@@ -7,6 +7,7 @@ use Rattle.numbers.specs.Words.{Bytes}
 use Rattle.numbers.specs.Result.{mapOption, orValue}
 use Rattle.schema.specs.Defs
 use Rattle.schema.specs.Defs.{Schema, StructDef}
+use Rattle.definitions.specs.declared.members.Member as coded
 use Rattle.layout.specs.State.{State, Env, M, ret}
 use Rattle.layout.specs.Kinds as Kinds
 use Rattle.layout.specs.Runs as runs
@@ -14,7 +15,9 @@ use Rattle.layout.specs.Runs.{Run}
 use Rattle.area.specs.declared.Round.{Round}
 use Rattle.area.specs.declared.Progress.{Progress}
 use Rattle.area.specs.Area.{Rep}
-use Rattle.area.specs.Posts.{Safe, Grown, Ans, gives, refuses, Meets}
+use Rattle.area.specs.Posts.{Safe, Grown, notedIn, Ans, gives, refuses, Meets}
+use Rattle.cells.specs.declared.defs.Def.{Def}
+use Rattle.members.specs.Posts.{remarkOn}
 use Rattle.runs.specs.declared.Ran.{Ran}
 use Rattle.runs.specs.declared.Ran.the-variants as Rn
 
@@ -23,6 +26,10 @@ abbrev pub ranIs : Ran → Ans (Option ℕ)
 ranIs (Rn.Kept b q) = gives (some b) q
 ranIs (Rn.Dropped q) = gives none q
 ranIs (Rn.Refused k q) = refuses k q
+
+-- a remark is met, and the run is dropped
+abbrev pub stopIn : Round → Progress → Bytes → Def → coded.Member → ℕ → ℕ → Ran × Bytes
+stopIn R p w d m kind detail = let x = notedIn R p w (remarkOn d m kind detail) in (Rn.Dropped (x .0), x .1)
 
 -- .. after a run's writer: the bytes that it pushed are paid for, with 16 more
 abbrev pub Grew : Round → ℕ → Progress → ℕ → Ran → Type 0

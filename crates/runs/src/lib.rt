@@ -37,7 +37,7 @@ ghost use Rattle.area.specs.Posts.{Safe, Open};
 ghost use Rattle.cells.specs.Names.{defOf, memberOf};
 ghost use Rattle.cells.specs.Cells.{Sane, cellSize, cellElement};
 ghost use Rattle.members.specs.Posts.{anySchema};
-ghost use Rattle.runs.specs.Posts.{Yields, plainRun};
+ghost use Rattle.runs.specs.Posts.{stopIn, Yields, plainRun};
 
 // A run's bytes are on the stack, and the name of its block; or the run is dropped; or a refusal.
 pub enum Ran {
@@ -158,6 +158,7 @@ pub fn stop_run(
     requires { ⌜ Safe round (length (now work)) p × Open p ⌝ }
     ensures { λ r. ⌜ ((F : Bytes) → Yields anySchema round (length (now (work .entry))) p (now (work .entry)) 1
         (λ S. Runs.stops (defOf F d) (memberOf m) kind detail) r (now (work .exit))) ⌝ }
+    ensures { λ r. ⌜ (r, now (work .exit)) ≡ stopIn round p (now (work .entry)) d m kind detail ⌝ }
 {
     Ran::Dropped(say(work, round, p, d, m, kind, detail))
 }

@@ -30,7 +30,7 @@ enum-run-spec =
     (λ c κs.
     let s = c .before .before .before .before .before .before .before .before .before .before .before .before .before .before in
     let a = s .args in (
-      rw (c .before .before .work2 .given) (went-marked (a .round) (length (a .work .now)) (a .p) (a .work .now) (λ S. isSome (winning S .enum (a .h))) (usedIn (a .h)) (a .work .now) (c .before .before .before .use-enum .result) (c .before .before .before .use-enum .last .0) 0 (s .pre) (c .before .before .before .use-enum .ensures) .0),
+      rw (c .before .before .work2 .given) (went-marked (a .round) (length (a .work .now)) (a .p) (a .work .now) (λ S. isSome (winning S .enum (a .h))) (usedIn (a .h)) (a .work .now) (c .before .before .before .use-enum .result) (c .before .before .before .use-enum .last .0) 0 (s .pre) (c .before .before .before .use-enum .ensures .0) .0),
       ((c .before .before .before .before .before .entries-at .ensures .1 .0, c .before .before .before .before .before .before .entry-count .ensures .1, omega arith), omega arith),
     ))
     (λ c. search needs)
@@ -42,4 +42,4 @@ enum-run-spec =
     (λ c.
     let s = c .before .before .before .before .before .before .before .before .before .before .before .before .before .before .before .before .before in
     let a = s .args in
-    enums-some (a .round) (length (a .work .now)) (a .p) (a .work .now) (a .sheet .now) (a .schema .now) (a .h) (rowsFrom (a .first) (a .n)) (c .before .before .before .before .before .before .before .before .before .before .before .before .before .find-enum .result) (c .before .before .before .before .before .before .before .before .before .before .before .before .before .find-enum .ensures .1) (c .before .before .before .before .before .before .before .before .before .before .before .at .given .0 .0) (c .before .before .before .before .before .before .before .before .entries-at .result) (c .before .before .before .before .before .before .before .before .before .entry-count .result) (c .before .before .before .before .before .before .use-enum .result) (c .before .before .before .before .before .before .use-enum .last .0) (length (c .before .before .before .before .before .before .use-enum .last .0)) (c .before .before .cell-run2 .result) (c .before .before .cell-run2 .last .1 .1 .0) (s .pre) (c .before .before .before .before .before .before .before .before .before .before .before .at .given .1) (c .before .before .before .before .before .before .before .before .before .entry-count .ensures .0) (c .before .before .before .before .before .before .before .before .entries-at .ensures .1 .1 (c .before .before .before .before .before .before .before .before .before .entry-count .result)) (c .before .before .before .before .before .before .use-enum .ensures) (c .before .before .before .before .before .work2 .given) (c .before .before .cell-run2 .ensures)))
+    enums-some (a .round) (length (a .work .now)) (a .p) (a .work .now) (a .sheet .now) (a .schema .now) (a .h) (rowsFrom (a .first) (a .n)) (c .before .before .before .before .before .before .before .before .before .before .before .before .before .find-enum .result) (c .before .before .before .before .before .before .before .before .before .before .before .before .before .find-enum .ensures .1) (c .before .before .before .before .before .before .before .before .before .before .before .at .given .0 .0) (c .before .before .before .before .before .before .before .before .entries-at .result) (c .before .before .before .before .before .before .before .before .before .entry-count .result) (c .before .before .before .before .before .before .use-enum .result) (c .before .before .before .before .before .before .use-enum .last .0) (length (c .before .before .before .before .before .before .use-enum .last .0)) (c .before .before .cell-run2 .result) (c .before .before .cell-run2 .last .1 .1 .0) (s .pre) (c .before .before .before .before .before .before .before .before .before .before .before .at .given .1) (c .before .before .before .before .before .before .before .before .before .entry-count .ensures .0) (c .before .before .before .before .before .before .before .before .entries-at .ensures .1 .1 (c .before .before .before .before .before .before .before .before .before .entry-count .result)) (c .before .before .before .before .before .before .use-enum .ensures .0) (c .before .before .before .before .before .work2 .given) (c .before .before .cell-run2 .ensures)))

@@ -85,19 +85,19 @@ plain-element-run-spec =
     (λ c.
     let s = c .before .before .before .before .before .before .before .before .before .before .before in
     let a = s .args in
-    plain-strange (a .round) (length (a .work .now)) (a .p) (a .work .now) (a .sheet .now) (a .schema .now) (a .d) (a .m) (a .x) (rowsFrom (a .first) (a .n)) Kinds.array (c .before .before .stop-run .result) (c .before .before .stop-run .last .0) (sym (c .before .before .before .before .before .before .before .kind-of .ensures) ∙ ap kindIs (c .before .before .before .before .before .enum-told5 .given .1)) refl (c .before .before .stop-run .ensures (a .schema .now)))
+    plain-strange (a .round) (length (a .work .now)) (a .p) (a .work .now) (a .sheet .now) (a .schema .now) (a .d) (a .m) (a .x) (rowsFrom (a .first) (a .n)) Kinds.array (c .before .before .stop-run .result) (c .before .before .stop-run .last .0) (sym (c .before .before .before .before .before .before .before .kind-of .ensures) ∙ ap kindIs (c .before .before .before .before .before .enum-told5 .given .1)) refl (c .before .before .stop-run .ensures .0 (a .schema .now)))
     (λ c. search needs)
     (λ c.
     let s = c .before .before .before .before .before .before .before .before .before .before .before in
     let a = s .args in
-    plain-strange (a .round) (length (a .work .now)) (a .p) (a .work .now) (a .sheet .now) (a .schema .now) (a .d) (a .m) (a .x) (rowsFrom (a .first) (a .n)) Kinds.flags (c .before .before .stop-run2 .result) (c .before .before .stop-run2 .last .0) (sym (c .before .before .before .before .before .before .before .kind-of .ensures) ∙ ap kindIs (c .before .before .before .before .before .enum-told6 .given .1)) refl (c .before .before .stop-run2 .ensures (a .schema .now)))
+    plain-strange (a .round) (length (a .work .now)) (a .p) (a .work .now) (a .sheet .now) (a .schema .now) (a .d) (a .m) (a .x) (rowsFrom (a .first) (a .n)) Kinds.flags (c .before .before .stop-run2 .result) (c .before .before .stop-run2 .last .0) (sym (c .before .before .before .before .before .before .before .kind-of .ensures) ∙ ap kindIs (c .before .before .before .before .before .enum-told6 .given .1)) refl (c .before .before .stop-run2 .ensures .0 (a .schema .now)))
     (λ c. search needs)
     (λ c.
     let s = c .before .before .before .before .before .before .before .before .before .before .before in
     let a = s .args in
-    plain-strange (a .round) (length (a .work .now)) (a .p) (a .work .now) (a .sheet .now) (a .schema .now) (a .d) (a .m) (a .x) (rowsFrom (a .first) (a .n)) Kinds.map (c .before .before .stop-run3 .result) (c .before .before .stop-run3 .last .0) (sym (c .before .before .before .before .before .before .before .kind-of .ensures) ∙ ap kindIs (c .before .before .before .before .before .enum-told7 .given .1)) refl (c .before .before .stop-run3 .ensures (a .schema .now)))
+    plain-strange (a .round) (length (a .work .now)) (a .p) (a .work .now) (a .sheet .now) (a .schema .now) (a .d) (a .m) (a .x) (rowsFrom (a .first) (a .n)) Kinds.map (c .before .before .stop-run3 .result) (c .before .before .stop-run3 .last .0) (sym (c .before .before .before .before .before .before .before .kind-of .ensures) ∙ ap kindIs (c .before .before .before .before .before .enum-told7 .given .1)) refl (c .before .before .stop-run3 .ensures .0 (a .schema .now)))
     (λ c. search needs)
     (λ c.
     let s = c .before .before .before .before .before .before .before .before .before .before .before in
     let a = s .args in
-    plain-strange (a .round) (length (a .work .now)) (a .p) (a .work .now) (a .sheet .now) (a .schema .now) (a .d) (a .m) (a .x) (rowsFrom (a .first) (a .n)) Kinds.other (c .before .before .stop-run4 .result) (c .before .before .stop-run4 .last .0) (sym (c .before .before .before .before .before .before .before .kind-of .ensures) ∙ ap kindIs (c .before .before .before .before .before .enum-told8 .given .1)) refl (c .before .before .stop-run4 .ensures (a .schema .now))))
+    plain-strange (a .round) (length (a .work .now)) (a .p) (a .work .now) (a .sheet .now) (a .schema .now) (a .d) (a .m) (a .x) (rowsFrom (a .first) (a .n)) Kinds.other (c .before .before .stop-run4 .result) (c .before .before .stop-run4 .last .0) (sym (c .before .before .before .before .before .before .before .kind-of .ensures) ∙ ap kindIs (c .before .before .before .before .before .enum-told8 .given .1)) refl (c .before .before .stop-run4 .ensures .0 (a .schema .now))))

@@ -16,7 +16,7 @@ text-run-spec =
     (λ c.
     let s = c .before .before .before .before .before .before .before .before .before .before in
     let a = s .args in
-    texts-zero (a .round) (length (a .work .now)) (a .p) (a .work .now) (a .sheet .now) (a .schema .now) (a .d) (a .m) (a .x) (rowsFrom (a .first) (a .n)) (c .before .before .before .before .before .high-half .result) (c .before .before .stop-run .result) (c .before .before .stop-run .last .0) (c .before .before .before .before .before .before .match .keys1) (c .before .before .before .before .before .high-half .ensures .0) (c .before .before .before .before .if1 .taken) (c .before .before .stop-run .ensures (a .schema .now)))
+    texts-zero (a .round) (length (a .work .now)) (a .p) (a .work .now) (a .sheet .now) (a .schema .now) (a .d) (a .m) (a .x) (rowsFrom (a .first) (a .n)) (c .before .before .before .before .before .high-half .result) (c .before .before .stop-run .result) (c .before .before .stop-run .last .0) (c .before .before .before .before .before .before .match .keys1) (c .before .before .before .before .before .high-half .ensures .0) (c .before .before .before .before .if1 .taken) (c .before .before .stop-run .ensures .0 (a .schema .now)))
     (λ c. search needs)
     (λ c κs. search needs)
     (λ c κs. search needs)
@@ -42,4 +42,4 @@ text-run-spec =
     (λ c.
     let s = c .before .before .before .before .before .before .before .before .before .before .before in
     let a = s .args in
-    texts-strange (a .round) (length (a .work .now)) (a .p) (a .work .now) (a .sheet .now) (a .schema .now) (a .d) (a .m) (a .x) (rowsFrom (a .first) (a .n)) (c .before .before .stop-run2 .result) (c .before .before .stop-run2 .last .0) (c .before .before .before .before .before .before .if2 .left) (λ t. t .taken) (λ t. t .1 .left) (c .before .before .before .before .before .if3 .came) (c .before .before .stop-run2 .ensures (a .schema .now))))
+    texts-strange (a .round) (length (a .work .now)) (a .p) (a .work .now) (a .sheet .now) (a .schema .now) (a .d) (a .m) (a .x) (rowsFrom (a .first) (a .n)) (c .before .before .stop-run2 .result) (c .before .before .stop-run2 .last .0) (c .before .before .before .before .before .before .if2 .left) (λ t. t .taken) (λ t. t .1 .left) (c .before .before .before .before .before .if3 .came) (c .before .before .stop-run2 .ensures .0 (a .schema .now))))

@@ -1,12 +1,14 @@
 -- `area::used::insert` meets its contract. Assumes nothing.
-use mathlib.Core.Path.{refl, sym, _∙_}
-use mathlib.Core.Bool.{false≢true}
+use mathlib.Core.Path.{sym, _∙_}
 use native.Mathlib.Omega.{arith}
+use borrow.Author.Tests.{le-leb, lt-leb}
 use borrow.Author.Needs.{needs}
+use Rattle.area.specs.Posts.{insertedIn}
 use Rattle.area.proofs.used.insert.Statement.{statement}
 use Rattle.area.proofs.used.insert.Tie as tie
 
 pub insert-spec : {M : Type 1} → statement M
+unfolding insertedIn
 insert-spec =
     tie.close
     (tie.spec
@@ -14,20 +16,22 @@ insert-spec =
     (λ c.
     record {
       few = c .before .before .before .before .pre .0;
-      there = λ e. (refl, refl);
-      new = λ e l. absurd (false≢true (sym e ∙ sym (c .before .contains .ensures) ∙ c .if1 .taken));
+      exact = rw (sym (c .before .contains .ensures) ∙ c .if1 .taken);
     })
     (λ c. search needs)
     (λ c.
     record {
       few = c .before .before .before .before .before .pre .0;
-      there = λ e. (refl, refl);
-      new = λ e l. absurd (omega (arith, l));
+      exact = rw (sym (c .before .before .contains .ensures) ∙ c .before .if1 .left, le-leb (c .before .before .before .before .before .args .room) (c .before .before .before .before .before .args .n) (c .if2 .taken));
     })
     (λ c. search needs) (λ c. search needs) (λ c κs. search needs) (λ c. search needs) (λ c. search needs)
     (λ c.
     record {
       few = omega arith;
-      there = λ e. absurd (false≢true (sym (c .before .before .before .before .before .if1 .left) ∙ c .before .before .before .before .before .before .contains .ensures ∙ e));
-      new = λ e l. (refl, c .before .before .write .ensures);
+      exact =
+          rw (
+            sym (c .before .before .before .before .before .before .contains .ensures) ∙ c .before .before .before .before .before .if1 .left,
+            lt-leb (c .before .before .before .before .before .before .before .before .before .args .room) (c .before .before .before .before .before .before .before .before .before .args .n) (c .before .before .before .before .if2 .left),
+            c .before .before .write .ensures,
+          );
     }))

@@ -14,8 +14,8 @@ named-plan-spec =
     (λ c κs. search needs)
     (λ c d.
     let a = c .before .before .before .before .before .before .args in
-    named-none (a .schema .now) d (a .m) (a .flags) (a .h) (c .before .before .before .before .enum-size .result) (c .before .before .before .before .enum-size .ensures .0) (c .before .before .before .before .enum-size .ensures .1) (c .before .before .before .find-enum .result) (c .before .before .before .find-enum .ensures .1) (c .before .enum-told .given .1) (c .named-cell .result) (c .named-cell .ensures))
+    named-none (a .schema .now) d (a .m) (a .flags) (a .h) (c .before .before .before .before .enum-size .result) (c .before .before .before .before .enum-size .ensures .0) (c .before .before .before .before .enum-size .ensures .1) (c .before .before .before .find-enum .result) (c .before .before .before .find-enum .ensures .0) (c .before .before .before .find-enum .ensures .1) (c .before .enum-told .given .1) (c .named-cell .result) (c .named-cell .ensures))
     (λ c d.
     let a = c .before .before .before .before .before .before .before .before .before .args in
-    named-some (a .schema .now) d (a .m) (a .flags) (a .h) (c .before .before .before .before .before .before .before .enum-size .result) (c .before .before .before .before .before .before .before .enum-size .ensures .0) (c .before .before .before .before .before .before .before .enum-size .ensures .1) (c .before .before .before .before .before .before .find-enum .result) (c .before .before .before .before .before .before .find-enum .ensures .1) (c .before .before .before .before .at .given .0 .0) (c .before .entries-at .result) (c .before .before .entry-count .result) (c .before .before .before .before .at .given .1)
-    (c .before .entries-at .ensures .1 .0) (c .before .before .entry-count .ensures .1) (c .before .before .entry-count .ensures .0) (c .before .entries-at .ensures .1 .1) (c .named-cell2 .result) (c .named-cell2 .ensures)))
+    named-some (a .schema .now) d (a .m) (a .flags) (a .h) (c .before .before .before .before .before .before .before .enum-size .result) (c .before .before .before .before .before .before .before .enum-size .ensures .0) (c .before .before .before .before .before .before .before .enum-size .ensures .1) (c .before .before .before .before .before .before .find-enum .result) (c .before .before .before .before .before .before .find-enum .ensures .0) (c .before .before .before .before .before .before .find-enum .ensures .1) (c .before .before .before .before .at .given .0 .0) (c .before .entries-at .result) (c .before .before .entry-count .result) (c .before .before .before .before .at .given .1)
+    (c .before .entries-at .ensures .0) (c .before .entries-at .ensures .1 .0) (c .before .before .entry-count .ensures .1) (c .before .before .entry-count .ensures .0) (c .before .entries-at .ensures .1 .1) (c .named-cell2 .result) (c .named-cell2 .ensures)))

@@ -10,5 +10,5 @@ used-spec =
     tie.close
     (tie.spec
     (λ c κs. search needs) (λ c. search needs)
-    (λ c. (λ e. c .before .before .use-enum .ensures, λ e. absurd (false≢true (sym e ∙ c .before .before .before .before .if1 .taken))))
+    (λ c. (λ e. c .before .before .use-enum .ensures .0, λ e. absurd (false≢true (sym e ∙ c .before .before .before .before .if1 .taken))))
     (λ c. (λ e. absurd (false≢true (sym (c .if1 .left) ∙ e)), λ e. (refl, refl))))

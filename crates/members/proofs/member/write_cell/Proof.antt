@@ -39,7 +39,7 @@ write-cell-spec =
     let a = s .args in
     let put = c .before .before .before .before .before .before .before .before in
     cell-wrong (a .round) (length (a .work .now)) (a .p) (a .work .now) (a .sheet .now) (a .schema .now) (a .d) (a .m) (valueIs (a .v)) (a .need) (cellBytes (a .sheet .now) (a .schema .now) (a .cell)) (a .known) (a .name) (c .before .before .before .before .before .before .before .before .before .before .before .before .value-row .result) (c .before .before .before .before .before .before .before .before .before .before .before .before .value-row .ensures) (sym (c .before .before .before .before .before .before .before .before .before .before .before .before .before .before .fits2 .ensures) ∙ not-false (c .before .before .before .before .before .before .before .before .before .before .before .before .before .before .fits2 .result) (c .before .before .before .before .before .before .before .before .before .before .before .before .before .if1 .left)) (put .put-cell .last .1 .1 .0)
-    (c .before .before .wrong .result) (c .before .before .wrong .last .0) refl (rw (← c .before .before .before .before .enum-told2 .given .1) (put .put-cell .ensures)) (c .before .before .wrong .ensures (a .schema .now)))
+    (c .before .before .wrong .result) (c .before .before .wrong .last .0) refl (rw (← c .before .before .before .before .enum-told2 .given .1) (put .put-cell .ensures)) (c .before .before .wrong .ensures .0 (a .schema .now)))
     (λ c. search needs)
     (λ c.
     let s = c .before .before .before .before .before .before .before .before .before .before .before .before .before .before in

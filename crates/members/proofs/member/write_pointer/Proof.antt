@@ -26,7 +26,7 @@ write-pointer-spec =
     let a = s .args in
     pointer-wrong (a .round) (length (a .work .now)) (a .p) (a .work .now) (a .sheet .now) (a .schema .now) (a .d) (a .m) (valueIs (a .v)) (c .before .before .before .before .before .before .value-row .result) (c .before .before .before .before .before .before .value-row .ensures)
     (rw (← c .before .before .before .before .before .before .before .before .before .slot-size .ensures .0) (sym (c .before .before .before .before .before .before .before .before .fits2 .ensures) ∙ not-false (c .before .before .before .before .before .before .before .before .fits2 .result) (c .before .before .before .before .before .before .before .if1 .left))) (c .before .before .wrong .result) (c .before .before .wrong .last .0)
-    (sym (c .before .before .before .before .before .has-str .ensures (a .sheet .now)) ∙ not-true (c .before .before .before .before .before .has-str .result) (c .before .before .before .before .if2 .taken)) (c .before .before .wrong .ensures (a .schema .now)))
+    (sym (c .before .before .before .before .before .has-str .ensures (a .sheet .now)) ∙ not-true (c .before .before .before .before .before .has-str .result) (c .before .before .before .before .if2 .taken)) (c .before .before .wrong .ensures .0 (a .schema .now)))
     (λ c. search needs) (λ c. search needs) (λ c. search needs) (λ c. search needs) (λ c κs. search needs)
     (λ c κs.
     let s = c .before .before .before .before .before .before .before .before .before .before .before .before .before .before in

@@ -31,7 +31,7 @@ write-struct-pay-requires t c κs = search needs
 write-struct-loop-holds : (t : ℕ) → write-struct-lts.Need-loop-holds (write-struct-calls t) (write-struct-at t) write-struct.Post write-struct-Inv-loop write-struct-μ-loop
 write-struct-loop-holds t c =
     let a = c .before .before .before .before .before .before .before .before .before .before .before .before .before .before .before .args in
-    let e = entered (a .schema .now) (a .round) (length (a .work .now)) (a .p) (a .work .now) (a .d) (c .before .before .before .before .before .before .before .s .given .0 .0) (c .before .before .before .before .use-struct .result) (c .before .before .before .before .use-struct .last .0) (c .before .before .before .before .before .before .before .before .before .before .before .before .before .before .before .pre .1) (sym (c .before .before .before .before .before .before .before .before .before .pay .ensures) ∙ (c .before .before .before .before .before .before .before .s .given .1)) (c .before .before .before .before .use-struct .ensures) in
+    let e = entered (a .schema .now) (a .round) (length (a .work .now)) (a .p) (a .work .now) (a .d) (c .before .before .before .before .before .before .before .s .given .0 .0) (c .before .before .before .before .use-struct .result) (c .before .before .before .before .use-struct .last .0) (c .before .before .before .before .before .before .before .before .before .before .before .before .before .before .before .pre .1) (sym (c .before .before .before .before .before .before .before .before .before .pay .ensures) ∙ (c .before .before .before .before .before .before .before .s .given .1)) (c .before .before .before .before .use-struct .ensures .0) in
     (refl, refl, refl, rw (c .before .before .before .work .given) (writing-begin (a .schema .now) (a .sheet .now) (a .round) (length (a .work .now)) (a .left - 1) (a .d) (fieldsIs (a .sheet .now) (a .from)) (a .p) (a .work .now) _ (c .before .before .before .before .use-struct .last .0) (c .before .before .before .before .before .before .before .before .before .before .before .before .before .before .before .pre .1) e))
 
 write-struct-loop-again : (t : ℕ) → write-struct-lts.Need-loop-again (write-struct-calls t) (write-struct-at t) write-struct.Post write-struct-Inv-loop write-struct-μ-loop
@@ -51,7 +51,7 @@ write-struct-returns-2 t c =
     let a = c .before .before .before .before .before .before .before .before .before .before .before .before .before .before .before .before .before .before .before .before .before .before .before .before .before .before .before .before .args in
     let l = c .before .before .before .before .before .before .before .before .before .before .before .before .loop in
     let i = l .inv in
-    let e = entered (a .schema .now) (a .round) (length (a .work .now)) (a .p) (a .work .now) (a .d) (c .before .before .before .before .before .before .before .before .before .before .before .before .before .before .before .before .before .before .before .before .s .given .0 .0) (c .before .before .before .before .before .before .before .before .before .before .before .before .before .before .before .before .before .use-struct .result) (c .before .before .before .before .before .before .before .before .before .before .before .before .before .before .before .before .before .use-struct .last .0) (c .before .before .before .before .before .before .before .before .before .before .before .before .before .before .before .before .before .before .before .before .before .before .before .before .before .before .before .before .pre .1) (sym (c .before .before .before .before .before .before .before .before .before .before .before .before .before .before .before .before .before .before .before .before .before .before .pay .ensures) ∙ (c .before .before .before .before .before .before .before .before .before .before .before .before .before .before .before .before .before .before .before .before .s .given .1)) (c .before .before .before .before .before .before .before .before .before .before .before .before .before .before .before .before .before .use-struct .ensures) in
+    let e = entered (a .schema .now) (a .round) (length (a .work .now)) (a .p) (a .work .now) (a .d) (c .before .before .before .before .before .before .before .before .before .before .before .before .before .before .before .before .before .before .before .before .s .given .0 .0) (c .before .before .before .before .before .before .before .before .before .before .before .before .before .before .before .before .before .use-struct .result) (c .before .before .before .before .before .before .before .before .before .before .before .before .before .before .before .before .before .use-struct .last .0) (c .before .before .before .before .before .before .before .before .before .before .before .before .before .before .before .before .before .before .before .before .before .before .before .before .before .before .before .before .pre .1) (sym (c .before .before .before .before .before .before .before .before .before .before .before .before .before .before .before .before .before .before .before .before .before .before .pay .ensures) ∙ (c .before .before .before .before .before .before .before .before .before .before .before .before .before .before .before .before .before .before .before .before .s .given .1)) (c .before .before .before .before .before .before .before .before .before .before .before .before .before .before .before .before .before .use-struct .ensures .0) in
     writing-refused (a .schema .now) (a .sheet .now) (a .round) (length (a .work .now)) (a .left - 1) (a .d) (fieldsIs (a .sheet .now) (a .from)) _ (c .before .before .before .before .before .before .before .before .before .before .before .before .before .before .before .before .before .use-struct .last .0) (l .q) (l .work) (l .k) (rw (c .before .before .before .before .before .before .before .before .before .before .before .before .before .before .before .before .work .given) at (i .3))
     (c .before .before .before .before .before .before .before .before .before .before .read-member .result) (c .before .before .before .before .before .before .before .value-of .result) (c .before .before .before .before .before .before .before .before .before .before .before .loop-test .taken) (nth-read (a .schema .now) (a .d) (l .k) (c .before .before .before .before .before .before .before .before .before .before .read-member .result) (c .before .before .before .before .before .before .before .before .before .before .read-member .ensures) (c .before .before .before .before .before .before .before .before .before .before .before .loop-test .taken)) (c .before .before .before .before .before .before .before .before .if2 .left) (c .before .before .before .before .before .before .before .value-of .ensures)
     (a .p) (a .work .now) (a .left) (c .before .before .before .before .before .before .before .before .before .before .before .before .before .before .before .before .before .before .before .before .before .before .before .before .before .before .before .before .pre .1) (omega (arith, c .before .before .before .before .before .before .before .before .before .before .before .before .before .before .before .before .before .before .before .before .before .before .before .before .if1 .left)) refl e (c .before .e .given .0 .0) (c .before .e .given .0 .1 .0) _ (rw (i .0 ∙ c .before .before .before .before .before .before .before .before .before .before .before .before .before .before .before .before .work .given, c .before .e .given .1) at (c .before .before .before .before .before .write-member .ensures))
@@ -79,7 +79,7 @@ write-struct-returns-4 t c =
     let a = c .before .before .before .before .before .before .before .before .before .before .before .before .before .before .before .before .before .args in
     let l = c .before .loop in
     let i = l .inv in
-    let e = entered (a .schema .now) (a .round) (length (a .work .now)) (a .p) (a .work .now) (a .d) (c .before .before .before .before .before .before .before .before .before .s .given .0 .0) (c .before .before .before .before .before .before .use-struct .result) (c .before .before .before .before .before .before .use-struct .last .0) (c .before .before .before .before .before .before .before .before .before .before .before .before .before .before .before .before .before .pre .1) (sym (c .before .before .before .before .before .before .before .before .before .before .before .pay .ensures) ∙ (c .before .before .before .before .before .before .before .before .before .s .given .1)) (c .before .before .before .before .before .before .use-struct .ensures) in
+    let e = entered (a .schema .now) (a .round) (length (a .work .now)) (a .p) (a .work .now) (a .d) (c .before .before .before .before .before .before .before .before .before .s .given .0 .0) (c .before .before .before .before .before .before .use-struct .result) (c .before .before .before .before .before .before .use-struct .last .0) (c .before .before .before .before .before .before .before .before .before .before .before .before .before .before .before .before .before .pre .1) (sym (c .before .before .before .before .before .before .before .before .before .before .before .pay .ensures) ∙ (c .before .before .before .before .before .before .before .before .before .s .given .1)) (c .before .before .before .before .before .before .use-struct .ensures .0) in
     writing-done (a .schema .now) (a .sheet .now) (a .round) (length (a .work .now)) (a .left - 1) (a .d) (fieldsIs (a .sheet .now) (a .from)) _ (c .before .before .before .before .before .before .use-struct .last .0) (l .q) (l .work) (l .k) (rw (c .before .before .before .before .before .work .given) at (i .3))
     (a .p) (a .work .now) (a .left) (c .before .before .before .before .before .before .before .before .before .before .before .before .before .before .before .before .before .pre .1) (omega (arith, c .before .before .before .before .before .before .before .before .before .before .before .before .before .if1 .left)) refl e (omega (arith, c .loop-test .left)) (omega (arith, c .before .before .before .before .before .before .before .before .before .before .before .before .before .before .before .before .before .good))
 
@@ -99,8 +99,8 @@ write-struct-closed t =
     (λ c κs. paid-safe (c .before .before .before .before .before .before .before .before .before .before .args .round) (length (c .before .before .before .before .before .before .before .before .before .before .args .work .now)) (c .before .before .before .before .before .before .before .before .before .before .args .p) (16 + c .before .before .before .before .before .before .before .before .before .before .args .d .size) (c .before .before .s .given .0 .0) (c .before .before .before .before .before .before .before .before .before .before .pre .1) (sym (c .before .before .before .before .pay .ensures) ∙ (c .before .before .s .given .1)))
     (λ c.
     let a = c .before .before .before .before .before .before .before .before .before .before .before .before .before .before .args in
-    let e = entered (a .schema .now) (a .round) (length (a .work .now)) (a .p) (a .work .now) (a .d) (c .before .before .before .before .before .before .s .given .0 .0) (c .before .before .before .use-struct .result) (c .before .before .before .use-struct .last .0) (c .before .before .before .before .before .before .before .before .before .before .before .before .before .before .pre .1) (sym (c .before .before .before .before .before .before .before .before .pay .ensures) ∙ (c .before .before .before .before .before .before .s .given .1)) (c .before .before .before .use-struct .ensures) in
-    let m = c .before .before .before .use-struct .ensures .top in
+    let e = entered (a .schema .now) (a .round) (length (a .work .now)) (a .p) (a .work .now) (a .d) (c .before .before .before .before .before .before .s .given .0 .0) (c .before .before .before .use-struct .result) (c .before .before .before .use-struct .last .0) (c .before .before .before .before .before .before .before .before .before .before .before .before .before .before .pre .1) (sym (c .before .before .before .before .before .before .before .before .pay .ensures) ∙ (c .before .before .before .before .before .before .s .given .1)) (c .before .before .before .use-struct .ensures .0) in
+    let m = c .before .before .before .use-struct .ensures .0 .top in
     record { fits = omega (arith, e .safe .stack, e .safe .room, e .safe .within, e .safe .small, c .before .before .before .before .before .before .before .before .before .before .before .before .before .before .good) })
     (λ c. search needs)
     (write-struct-loop-holds t)

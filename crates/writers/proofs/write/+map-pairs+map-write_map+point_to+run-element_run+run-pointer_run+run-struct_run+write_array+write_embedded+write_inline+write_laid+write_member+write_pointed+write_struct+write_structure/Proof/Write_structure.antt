@@ -11,7 +11,7 @@ write-structure-wrong-requires : (t : ℕ) → write-structure-lts.Need-wrong-re
 write-structure-wrong-requires t c κs = c .before .before .before .before .before .before .before .pre .1 .0
 
 write-structure-returns : (t : ℕ) → write-structure-lts.Need-returns (write-structure-calls t) (write-structure-at t) write-structure.Post
-write-structure-returns t c = structure-wrong _ _ _ _ (c .before .before .before .before .before .before .before .before .before .before .args .sheet .now) (c .before .before .before .before .before .before .before .before .before .before .args .schema .now) (c .before .before .before .before .before .before .before .before .before .before .args .left) (c .before .before .before .before .before .before .before .before .before .before .args .d) (c .before .before .before .before .before .before .before .before .before .before .args .m) (c .before .before .before .before .before .before .before .before .before .before .args .v) _ _ _ _ (c .before .before .before .before .before .before .value-row .ensures) (c .before .before .before .before .before .is-struct-value .ensures) (not-true _ (c .before .before .before .before .if1 .taken)) (c .before .before .wrong .ensures)
+write-structure-returns t c = structure-wrong _ _ _ _ (c .before .before .before .before .before .before .before .before .before .before .args .sheet .now) (c .before .before .before .before .before .before .before .before .before .before .args .schema .now) (c .before .before .before .before .before .before .before .before .before .before .args .left) (c .before .before .before .before .before .before .before .before .before .before .args .d) (c .before .before .before .before .before .before .before .before .before .before .args .m) (c .before .before .before .before .before .before .before .before .before .before .args .v) _ _ _ _ (c .before .before .before .before .before .before .value-row .ensures) (c .before .before .before .before .before .is-struct-value .ensures) (not-true _ (c .before .before .before .before .if1 .taken)) (c .before .before .wrong .ensures .0)
 
 write-structure-returns-2 : (t : ℕ) → write-structure-lts.Need-returns-2 (write-structure-calls t) (write-structure-at t) write-structure.Post
 write-structure-returns-2 t c = structure-inline _ _ _ _ (c .before .before .before .before .before .before .before .before .before .before .before .before .args .sheet .now) (c .before .before .before .before .before .before .before .before .before .before .before .before .args .schema .now) (c .before .before .before .before .before .before .before .before .before .before .before .before .args .left) (c .before .before .before .before .before .before .before .before .before .before .before .before .args .d) (c .before .before .before .before .before .before .before .before .before .before .before .before .args .m) (c .before .before .before .before .before .before .before .before .before .before .before .before .args .v) _ _ _ _ (c .before .before .before .before .before .before .before .before .value-row .ensures) (c .before .before .before .before .before .before .before .is-struct-value .ensures) (not-false _ (c .before .before .before .before .before .before .if1 .left)) (c .before .before .before .before .if2 .taken) (c .before .before .write-inline .ensures)
