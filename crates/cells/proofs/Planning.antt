@@ -33,7 +33,7 @@ use Rattle.cells.specs.declared.plan.Plan.the-variants as P
 use Rattle.cells.specs.Names.{defOf, memberOf, entriesFrom}
 use Rattle.cells.specs.Cells.{Sane, cellSize, scalarCell}
 use Rattle.cells.specs.Plans.{namedCell, namedMember, plainMember}
-use Rattle.cells.specs.Plans.{scalarPlan, fixedPlan, textPlan, namedAt, namedPlan, planOf, InOrder, Plans, PlansNamed, PlansKind}
+use Rattle.cells.specs.Plans.{scalarPlan, fixedPlan, textPlan, namedPlan, planOf, InOrder, Plans, PlansNamed, PlansKind}
 use Rattle.cells.proofs.Choosing.{scalar-cell, fixed-cell, hash-cell, named-cell, named-sane}
 
 seven-eight : (x : ℕ) → 7 ≤ x → x < 9 → eqb x 7 || eqb x 8 ≡ true
