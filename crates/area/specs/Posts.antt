@@ -53,7 +53,7 @@ keptIn p w = record { rows = rowsIn w 32768 (p .rows); next = p .next; seen = p 
 abbrev pub keepsIn : Progress → Bytes → Kept → Progress × Bytes
 keepsIn p w k = (withNotes p (length (k .rows)) (k .seen) (k .next), over w (32768 + 16 * p .rows) (rowsBytes (drop (p .rows) (k .rows))))
 
--- a remark is met, whatever rows stand there
+-- one remark more (`meet`), whatever rows stand there
 unfoldable pub notedIn : Round → Progress → Bytes → Remark → Progress × Bytes
 notedIn R p w r = keepsIn p w (meet (R .skip) (keptIn p w) r)
 
@@ -76,6 +76,7 @@ unfoldable pub insertedIn : Bytes → ℕ → ℕ → ℕ → ℕ → ℕ × Byt
 insertedIn w at count room name =
     cond (contains name (namesIn w at count) || leb room count) (count, w) (count + 1, over w (at + 4 * count) (bytesOf 4 name))
 
+-- a name is put there
 pub record Inserts (at count room name : ℕ) (w : Bytes) (r : ℕ) (w' : Bytes) : Type 0 where
   pub few : r ≤ room
   pub exact : (r, w') ≡ insertedIn w at count room name
@@ -155,21 +156,22 @@ Enlarged p len to (refuses k q) = (k ≡ 10) × (q ≡ p)
 abbrev pub lies : layout.Spot → Bool
 lies s = leb (suc (s .before)) 4095 && leb (s .start) 0xFFFFF
 
--- an item of `len` bytes at the spot s: its head stands behind the other items, and `put` puts its bytes there; where there is no place for it, nothing is done
+-- an item of `len` bytes at the spot s: its head stands behind the other items, and `put` puts its bytes behind that; where there is no place for it, nothing is done
 abbrev pub laidAt : Progress → Bytes → ℕ → ℕ → ℕ → (Bytes → Bytes) → layout.Spot → Ans ℕ × Bytes
 laidAt p w name len top put s =
     cond (lies s)
     (gives (pointerAt s) (withItem p (blocksWith (p .blocks) (s .before)) (p .end + (16 + len)) top), put (headed w (p .end) name (s .before) (s .start) len))
     (refuses 10 p, w)
 
--- its bytes are the top `len` bytes of the stack, where zeros stand then
+-- the top `len` bytes of the stack moved behind the head, and zeros where they stood
 abbrev pub moved : Progress → ℕ → Bytes → Bytes
 moved p len x = over (over x (p .end + 16) (take len (drop (p .top - len) x))) (p .top - len) (zeros len)
 
+-- they are an item of the name, whatever stands in the area
 unfoldable pub layIn : Progress → Bytes → ℕ → ℕ → Ans ℕ × Bytes
 layIn p w name len = laidAt p w name len (p .top - len) (moved p len) (spot name len (blocksIn w 0 (p .blocks)))
 
--- its bytes are a text; the byte behind the text is the item's last, and is left as it stands
+-- a text is an item of the name 1; the item's last byte, behind the text, is left as it stands
 unfoldable pub layTextIn : Progress → Bytes → Bytes → Ans ℕ × Bytes
 layTextIn p w t = laidAt p w 1 (length t + 1) (p .top) (λ x. over x (p .end + 16) t) (spot 1 (length t + 1) (blocksIn w 0 (p .blocks)))
 
