@@ -1,7 +1,7 @@
 -- The lengths of the blocks summed, from their rows. Assumes nothing.
-use Prim.Native.Nat.{ℕ, _+_, _*_, _≤_, _<_}
+use Prim.Native.Nat.{ℕ, suc, _+_, _-_, _*_, _≤_, _<_}
 use native.Mathlib.Omega.{arith}
-use mathlib.Core.Path.{_≡_, subst}
+use mathlib.Core.Path.{_≡_, refl, _∙_, ap, ap₂}
 use mathlib.Core.List.{List, [], _∷_}
 use lib.ListN.{length}
 use Rattle.numbers.specs.Words.{Bytes, readAt, Stands}
@@ -10,35 +10,29 @@ use Rattle.layout.specs.State.{Block}
 use Rattle.layout.specs.Always.{total}
 use Rattle.area.specs.Area.{rowsOf, Small}
 use Rattle.area.proofs.Spots.{row-at}
+use Rattle.assemble.specs.Packed.{lengthsIn}
 
--- k blocks are summed
-pub record Adding (w : Bytes) (count : ℕ) (bs : List Block) (k sum : ℕ) : Type 0 where
-  pub left : List Block
-  pub here : Stands w (8 * k) (rowsOf left)
-  pub small : Every Small left
-  pub many : k + length left ≡ count
-  pub same : sum + total left ≡ total bs
+-- the loop: k of `count` rows are summed
+module _ (w : Bytes) (count : ℕ) where
+  abbrev pub leftOf : ℕ → ℕ
+  leftOf k = lengthsIn w (8 * k) (count - k)
 
-module _ (w : Bytes) (count : ℕ) (bs : List Block) where
-  pub add-begin : length bs ≡ count → Every Small bs → Stands w 0 (rowsOf bs) → Adding w count bs 0 0
-  add-begin m s h = record { left = bs; here = h; small = s; many = omega (arith, m); same = omega arith }
+  pub left-first : leftOf 0 ≡ lengthsIn w 0 count
+  left-first = let e : count - 0 ≡ count = omega arith in ap (lengthsIn w 0) e
 
-  turn-at : (k sum n : ℕ) (l : List Block) → Stands w (8 * k) (rowsOf l) → Every Small l → k + length l ≡ count → sum + total l ≡ total bs → k < count
-      → n ≡ readAt 4 w (8 * k + 4) → Adding w count bs (k + 1) (sum + n)
-  unfolding total
-  turn-at k sum n [] h s m e g q = absurd (omega (arith, m, g))
-  turn-at k sum n (b ∷ l) h s m e g q =
-      let r = row-at w (8 * k) b l (s .0) h in
-      let z : 8 * k + 8 ≡ 8 * (k + 1) = omega arith in
-      record { left = l; here = subst (λ i. Stands w i (rowsOf l)) z (r .rest); small = s .1; many = omega (arith, m); same = omega (arith, e, q, r .len) }
+  pub left-on : (k : ℕ) → k < count → leftOf k ≡ readAt 4 w (8 * k + 4) + leftOf (k + 1)
+  unfolding lengthsIn
+  left-on k h =
+      let a : count - k ≡ suc (count - (k + 1)) = omega arith in
+      let b : 8 * k + 8 ≡ 8 * (k + 1) = omega arith in
+      ap (lengthsIn w (8 * k)) a ∙ ap (λ (n : ℕ). readAt 4 w (8 * k + 4) + lengthsIn w n (count - (k + 1))) b
 
-  pub add-turn : (k sum n : ℕ) → Adding w count bs k sum → k < count → n ≡ readAt 4 w (8 * k + 4) → Adding w count bs (k + 1) (sum + n)
-  add-turn k sum n a g q = turn-at k sum n (a .left) (a .here) (a .small) (a .many) (a .same) g q
+  pub left-done : (k : ℕ) → count ≤ k → leftOf k ≡ 0
+  unfolding lengthsIn
+  left-done k h = let e : count - k ≡ 0 = omega arith in ap (lengthsIn w (8 * k)) e
 
-  last-at : (k sum : ℕ) (l : List Block) → k + length l ≡ count → sum + total l ≡ total bs → count ≤ k → sum ≡ total bs
-  unfolding total
-  last-at k sum [] m e g = omega (arith, e)
-  last-at k sum (b ∷ l) m e g = absurd (omega (arith, m, g))
-
-  pub add-last : (k sum : ℕ) → Adding w count bs k sum → count ≤ k → sum ≡ total bs
-  add-last k sum a g = last-at k sum (a .left) (a .many) (a .same) g
+-- of the rows of blocks they are the blocks' lengths
+pub lengths-total : (w : Bytes) (at : ℕ) (bs : List Block) → Every Small bs → Stands w at (rowsOf bs) → lengthsIn w at (length bs) ≡ total bs
+unfolding lengthsIn total
+lengths-total w at [] s h = refl
+lengths-total w at (b ∷ bs) s h = let r = row-at w at b bs (s .0) h in ap₂ (λ (x y : ℕ). x + y) (r .len) (lengths-total w (at + 8) bs (s .1) (r .rest))

@@ -1,8 +1,9 @@
 -- The whole file from a work area, and the work area after it.
-use Prim.Native.Nat.{ℕ, _+_, _-_, _*_, _≤_}
+use Prim.Native.Nat.{ℕ, zero, suc, _+_, _-_, _*_, _≤_}
 use mathlib.Core.Path.{_≡_}
+use mathlib.Core.Bool.{true, false}
 use lib.ListN.{length}
-use Rattle.numbers.specs.Words.{Bytes, over, zeros}
+use Rattle.numbers.specs.Words.{Bytes, readAt, over, zeros}
 use Rattle.numbers.specs.Result.{ok}
 use Rattle.schema.specs.Defs.{Schema, winning}
 use Rattle.schema.specs.Psch.{schemaOf}
@@ -12,6 +13,19 @@ use Rattle.layout.specs.Assemble.{fileOf}
 use Rattle.area.specs.declared.Round.{Round}
 use Rattle.area.specs.declared.Progress.{Progress}
 use Rattle.area.specs.Area.{itemsAt, stackAt, Rep}
+use Rattle.area.specs.Rows.{namesIn}
+use Rattle.psch.specs.Used.{countedFrom}
+
+-- the lengths in n rows of blocks, from a place on, together
+unfoldable pub lengthsIn : Bytes → ℕ → ℕ → ℕ
+lengthsIn w at zero = 0
+lengthsIn w at (suc n) = readAt 4 w (at + 4) + lengthsIn w (at + 8) n
+
+-- the file's length by what stands in the area w, whatever it is: PSIN's head and the blocks, PMAP, PSCH's head; then the used structures, the used enums
+abbrev pub lengthOf : Bytes → Round → Progress → Bytes → ℕ
+lengthOf F R p w =
+    countedFrom F true (countedFrom F false (16 + lengthsIn w 0 (p .blocks) + (16 + 16 * p .blocks) + 12) (namesIn w 65536 (p .structs)))
+    (namesIn w (65536 + 4 * R .entries) (p .enums))
 
 -- the area w, with the numbers p, holds the state s of a layout over the schema file's definitions
 pub record Holds (F : Bytes) (R : Round) (p : Progress) (w : Bytes) (S : Schema) (s : State) (σ : Bytes) : Type 0 where

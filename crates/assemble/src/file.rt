@@ -7,26 +7,21 @@ use numbers::words::read_u32;
 use psch::definitions_length;
 use psch::put_schema;
 ghost use mathlib.Core.Path.{_≡_};
-ghost use mathlib.Core.List.{List};
 ghost use Prim.Native.Nat.{ℕ, _+_, _*_, _≤_};
 ghost use lib.ListN.{length};
-ghost use Rattle.numbers.specs.Words.{Bytes, words, over, zeros, Stands};
-ghost use Rattle.numbers.specs.Result.{Every};
+ghost use Rattle.numbers.specs.Words.{Bytes, words, over, zeros};
 ghost use Rattle.schema.specs.Defs.{Schema, winning};
-ghost use Rattle.layout.specs.State.{Block, State};
-ghost use Rattle.layout.specs.Always.{total};
+ghost use Rattle.layout.specs.State.{State};
 ghost use Rattle.layout.specs.Assemble.{fileOf};
-ghost use Rattle.area.specs.Area.{rowsOf, Small};
 ghost use Rattle.area.specs.Posts.{Safe};
 ghost use Rattle.assemble.specs.Map.{placesOf};
 ghost use Rattle.psch.specs.Used.{Counts};
-ghost use Rattle.assemble.specs.Packed.{Holds, Fitting, SomeFitting, tableAt, InUse, rowsWiped, namesWiped, allWiped};
+ghost use Rattle.assemble.specs.Packed.{lengthsIn, lengthOf, Holds, Fitting, SomeFitting, tableAt, InUse, rowsWiped, namesWiped, allWiped};
 
 // The lengths of the `count` blocks together.
 fn data_length(work: &[u8], count: usize) -> usize
     requires { ⌜ count ≤ 4095 ⌝ }
-    ensures { λ r. ⌜ r ≤ 4294967296 * count ⌝ }
-    ensures { λ r. ⌜ ((bs : List Block) → length bs ≡ count → Every Small bs → Stands (now (work .entry)) 0 (rowsOf bs) → r ≡ total bs) ⌝ }
+    ensures { λ r. ⌜ (r ≡ lengthsIn (now (work .entry)) 0 count) × (r ≤ 4294967296 * count) ⌝ }
 {
     let mut sum = 0;
     let mut k = 0;
@@ -40,6 +35,7 @@ fn data_length(work: &[u8], count: usize) -> usize
 // The file's length; more than 16,777,216 where it is longer than that.
 pub fn file_length(schema: &[u8], work: &[u8], round: Round, p: Progress) -> usize
     requires { ⌜ Safe round (length (now work)) p ⌝ }
+    ensures { λ r. ⌜ r ≡ lengthOf (now (schema .entry)) round p (now (work .entry)) ⌝ }
     ensures { λ r. ⌜ ((S : Schema) (s : State) (σ : Bytes) (pointer : ℕ) → Holds (now (schema .entry)) round p (now (work .entry)) S s σ
         → Counts r (length (fileOf (winning S) pointer (s .core)))) ⌝ }
 {

@@ -6,6 +6,7 @@ use mathlib.Core.Bool.{Bool}
 use mathlib.Core.List.{List, [], _∷_, _++_, append-assoc}
 use lib.ListN.{length, take, drop, length-append, length-map, take-append-drop}
 use lib.Seq.{length-take-le}
+use borrow.Author.Tests.{lt-ltb, le-ltb}
 use Rattle.numbers.specs.Words.{Bytes, readAt, words, over}
 use Rattle.numbers.specs.Result.{Every}
 use Rattle.numbers.proofs.Bytes.{length-words}
@@ -13,7 +14,7 @@ use Rattle.layout.specs.Assemble.{joined, Records, indexOf, bodies}
 use Rattle.layout.proofs.ReadDefs.{index-length}
 use Rattle.area.specs.Rows.{namesIn}
 use Rattle.area.proofs.Over.{over-right, over-left, over-seq, length-over}
-use Rattle.psch.specs.Used.{bodyOf, recordsFor, sizeOf, Stored, Counts}
+use Rattle.psch.specs.Used.{bodyOf, recordsFor, sizeOf, countedFrom, Stored, Counts}
 use Rattle.psch.proofs.Sections.{over-none}
 
 -- pastes
@@ -113,9 +114,29 @@ module _ (F w : Bytes) (e : Bool) (names count : ℕ) where
     pub few : k ≤ count
     pub low : sum < 2 ^ 48
     pub same : sum + sizeOf (rest k) ≡ from + sizeOf all
+    pub counts : countedFrom F e sum (leftOf k) ≡ countedFrom F e from (namesIn w names count)
+
+  -- a name is counted, and none is any more
+  counted-on : (sum k n name : ℕ) → k < count → sum ≤ 16777216 → name ≡ readAt 4 w (names + 4 * k) → n ≡ length (bodyOf F e name)
+      → countedFrom F e (sum + (8 + n)) (leftOf (k + 1)) ≡ countedFrom F e sum (leftOf k)
+  unfolding countedFrom
+  counted-on sum k n name h l q m =
+      let z : n ≡ length (bodyOf F e (readAt 4 w (names + 4 * k))) = m ∙ ap (λ (x : ℕ). length (bodyOf F e x)) q in
+      sym (ap (countedFrom F e sum) (names-on k h) ∙ rw (le-ltb 16777216 sum l) (ap (λ (x : ℕ). countedFrom F e (sum + (8 + x)) (leftOf (k + 1))) (sym z)))
+
+  counted-stops : (sum : ℕ) (ns : List ℕ) → 16777216 < sum → countedFrom F e sum ns ≡ sum
+  unfolding countedFrom
+  counted-stops sum [] h = refl
+  counted-stops sum (n ∷ ns) h = rw (lt-ltb 16777216 sum h) refl
 
   pub sum-begin : (from : ℕ) → from < 2 ^ 48 → Summing from from 0
-  sum-begin from h = record { few = omega arith; low = h; same = ap (λ (ns : List ℕ). from + sizeOf (recordsFor F e ns)) (names-first 0 refl) }
+  sum-begin from h =
+      record {
+        few = omega arith;
+        low = h;
+        same = ap (λ (ns : List ℕ). from + sizeOf (recordsFor F e ns)) (names-first 0 refl);
+        counts = ap (countedFrom F e from) (names-first 0 refl);
+      }
 
   pub sum-turn : (from sum k n name : ℕ) → Summing from sum k → k < count → sum ≤ 16777216 → name ≡ readAt 4 w (names + 4 * k) → (n ≡ length (bodyOf F e name)) × (n < 2 ^ 28)
       → Summing from (sum + (8 + n)) (k + 1)
@@ -123,17 +144,21 @@ module _ (F w : Bytes) (e : Bool) (names count : ℕ) where
       let z : sizeOf (rest k) ≡ 8 + n + sizeOf (rest (k + 1)) =
       ap (λ (ns : List ℕ). sizeOf (recordsFor F e ns)) (names-on k h) ∙ size-cons (readAt 4 w (names + 4 * k), bodyOf F e (readAt 4 w (names + 4 * k))) (rest (k + 1))
       ∙ ap (λ (x : ℕ). 8 + x + sizeOf (rest (k + 1))) (ap (λ (x : ℕ). length (bodyOf F e x)) (sym q) ∙ sym (m .0)) in
-      record { few = omega arith; low = omega (arith, l, m .1); same = omega (arith, s .same, z) }
+      record { few = omega arith; low = omega (arith, l, m .1); same = omega (arith, s .same, z); counts = counted-on sum k n name h l q (m .0) ∙ s .counts }
 
-  pub sum-long : (from sum k : ℕ) → Summing from sum k → 16777216 < sum → Counts sum (from + sizeOf all) × (sum < 2 ^ 48)
-  sum-long from sum k s h = (record { exact = λ g. absurd (omega (arith, g, h)); long = λ g. omega (arith, s .same, h) }, s .low)
+  abbrev Summed : ℕ → ℕ → Type 0
+  Summed from sum = Counts sum (from + sizeOf all) × (sum < 2 ^ 48) × (sum ≡ countedFrom F e from (namesIn w names count))
 
-  pub sum-last : (from sum k : ℕ) → Summing from sum k → count ≤ k → Counts sum (from + sizeOf all) × (sum < 2 ^ 48)
-  unfolding joined
+  pub sum-long : (from sum k : ℕ) → Summing from sum k → 16777216 < sum → Summed from sum
+  sum-long from sum k s h =
+      (record { exact = λ g. absurd (omega (arith, g, h)); long = λ g. omega (arith, s .same, h) }, s .low, sym (counted-stops sum (leftOf k) h) ∙ s .counts)
+
+  pub sum-last : (from sum k : ℕ) → Summing from sum k → count ≤ k → Summed from sum
+  unfolding joined countedFrom
   sum-last from sum k s h =
       let z : sizeOf (rest k) ≡ 0 = ap (λ (ns : List ℕ). sizeOf (recordsFor F e ns)) (names-done k h) in
       let q : sum ≡ from + sizeOf all = omega (arith, s .same, z) in
-      (record { exact = λ g. q; long = λ g. omega (arith, g, q) }, s .low)
+      (record { exact = λ g. q; long = λ g. omega (arith, g, q) }, s .low, ap (countedFrom F e sum) (sym (names-done k h)) ∙ s .counts)
 
   -- the writing
 

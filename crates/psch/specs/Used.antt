@@ -1,9 +1,10 @@
 -- The used definitions, from the schema file to PSCH.
 use Prim.Native.Nat.{ℕ, _+_, _*_, _≤_, _<_}
 use mathlib.Core.Path.{_≡_}
-use mathlib.Core.Bool.{Bool, true, false}
-use mathlib.Core.List.{List, [], map, _++_}
+use mathlib.Core.Bool.{Bool, true, false, cond}
+use mathlib.Core.List.{List, [], _∷_, map, _++_}
 use mathlib.Core.Option.{some}
+use lib.Dec.{ltb}
 use lib.ListN.{length}
 use Rattle.numbers.specs.Words.{Bytes, readAt}
 use Rattle.numbers.specs.Result.{mapOption, orValue, Every}
@@ -35,6 +36,11 @@ recordsFor F k ns = map (λ n. (n, bodyOf F k n)) ns
 -- what records take in PSCH behind its head: an index entry of 8 bytes and the definition, each
 abbrev pub sizeOf : Records → ℕ
 sizeOf rs = 8 * length rs + length (bodies rs)
+
+-- the same added to a length one by one; above "16,777,216", where 13 is certain, it is left as it is
+unfoldable pub countedFrom : Bytes → Bool → ℕ → List ℕ → ℕ
+countedFrom F k sum [] = sum
+countedFrom F k sum (n ∷ ns) = cond (ltb 16777216 sum) sum (countedFrom F k (sum + (8 + length (bodyOf F k n))) ns)
 
 -- a definition of the kind stands at the place, and all of it lies in the file
 pub record Lies (F : Bytes) (k : Bool) (at : ℕ) : Type 0 where

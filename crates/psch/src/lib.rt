@@ -23,7 +23,7 @@ ghost use Rattle.definitions.specs.Answers.{foundIs};
 ghost use Rattle.layout.specs.Assemble.{indexOf, pschBytes, bodies};
 ghost use Rattle.area.specs.Rows.{namesIn};
 ghost use Rattle.area.specs.Posts.{Safe};
-ghost use Rattle.psch.specs.Used.{kindOf, definitionAt, bodyOf, recordsFor, sizeOf, usedRecords, Lies, Stored, AllStored, Counts};
+ghost use Rattle.psch.specs.Used.{kindOf, definitionAt, bodyOf, recordsFor, sizeOf, countedFrom, usedRecords, Lies, Stored, AllStored, Counts};
 
 pub mod section;
 
@@ -69,7 +69,8 @@ pub fn definitions_length(
     from: usize,
 ) -> usize
     requires { ⌜ (names + 4 * count ≤ length (now work)) × (from < 2 ^ 48) ⌝ }
-    ensures { λ r. ⌜ Counts r (from + sizeOf (recordsFor (now (schema .entry)) enums (namesIn (now (work .entry)) names count))) × (r < 2 ^ 48) ⌝ }
+    ensures { λ r. ⌜ Counts r (from + sizeOf (recordsFor (now (schema .entry)) enums (namesIn (now (work .entry)) names count))) × (r < 2 ^ 48)
+        × (r ≡ countedFrom (now (schema .entry)) enums from (namesIn (now (work .entry)) names count)) ⌝ }
 {
     let mut sum = from;
     let mut k = 0;

@@ -7,7 +7,7 @@ use native.Mathlib.Omega.{arith}
 use lib.Dec.{ltb}
 use lib.ListN.{length, take}
 use lib.Seq.{length-take-le}
-use borrow.Author.Tests.{lt-ltb}
+use borrow.Author.Tests.{lt-ltb, le-ltb}
 use Rattle.numbers.specs.Words.{Bytes}
 use Rattle.numbers.specs.Result.{ok, refused}
 use Rattle.value.specs.Rows.{row, fieldsOf}
@@ -26,9 +26,34 @@ use Rattle.rounds.specs.declared.Stage.{Stage}
 use Rattle.psch.specs.Used.{Counts}
 use Rattle.assemble.specs.Packed.{Holds}
 use Rattle.rounds.specs.Run.{runOf, made, Standing, metIn}
-use Rattle.rounds.specs.Merge.{refusalOf, endedAt, remarksIn, Goes, Judges}
+use Rattle.rounds.specs.Merge.{refusalOf, endedAt, judgedAt, remarksIn, Goes, Judges}
 use Rattle.rounds.proofs.Standings.{made-stop, made-done, fitted-long, fitted-fits, remains}
 use Rattle.rounds.proofs.Merges.{turns-last, closes}
+
+-- the code's ways, where m is the length that was counted
+module _ (size : ℕ) (st : Stage) (m n : ℕ) where
+  pub at-bad : st .job .good ≡ false → refusalOf (st .job) (st .job .value) ≡ judgedAt size st n
+  unfolding judgedAt
+  at-bad g = rw g refl
+
+  module _ (good : st .job .good ≡ true) (e : m ≡ n) where
+    at-long : ltb size n || ltb 16777216 n ≡ true → refusalOf (st .job) 13 ≡ judgedAt size st n
+    unfolding judgedAt
+    at-long f = rw (good, f) refl
+
+    pub at-huge : 16777216 < m → refusalOf (st .job) 13 ≡ judgedAt size st n
+    at-huge f = at-long (rw (lt-ltb 16777216 n (omega (arith, f, e))) (or-true (ltb size n)))
+
+    pub at-past : size < m → refusalOf (st .job) 13 ≡ judgedAt size st n
+    at-past f = at-long (rw (lt-ltb size n (omega (arith, f, e))) refl)
+
+    pub at-end : m ≤ 16777216 → m ≤ size → endedAt st m ≡ judgedAt size st n
+    unfolding judgedAt
+    at-end g f =
+        let t : ltb size n || ltb 16777216 n ≡ false = rw (le-ltb size n (omega (arith, f, e)), le-ltb 16777216 n (omega (arith, g, e))) refl in
+        let long : Stage = refusalOf (st .job) 13 in
+        ap (endedAt st) e ∙ sym (ap (λ (b : Bool). cond b long (endedAt st n)) t)
+        ∙ sym (ap (λ (b : Bool). cond b (cond (ltb size n || ltb 16777216 n) long (endedAt st n)) (refusalOf (st .job) (st .job .value))) good)
 
 -- a refusal of the layout's own
 ended-badly : (S : Schema) (R : Round) (n size room : ℕ) (L : Lookup) (o : Out ℕ) (good : Bool) (value : ℕ) (p : Progress) (w : Bytes)

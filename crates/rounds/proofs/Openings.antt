@@ -1,7 +1,7 @@
 -- What is refused before the layout, and what it runs with. Assumes nothing.
 use mathlib.Core.Path.{_≡_, refl, sym, ap, subst, _∙_}
 use mathlib.Core.Bool.{Bool, true, false}
-use mathlib.Core.Option.{none, some}
+use mathlib.Core.Option.{Option, none, some}
 use Prim.Native.Nat.{ℕ, _*_, _-_, _/_, _<_, _≤_}
 use native.Mathlib.Omega.{arith}
 use lib.Dec.{ltb}
@@ -16,7 +16,8 @@ use Rattle.schema.specs.declared.check.Checked.the-variants as C
 use Rattle.definitions.specs.declared.lookup.Found.{Found}
 use Rattle.definitions.specs.declared.lookup.Found.the-variants as Fd
 use Rattle.schema.specs.Answers.{checkedIs}
-use Rattle.definitions.specs.Answers.{foundIs, structFound}
+use Rattle.definitions.specs.Answers.{foundIs}
+use Rattle.definitions.proofs.Finds.{winning-struct}
 use Rattle.schema.specs.Defs.{Schema, StructDef, winning, indexEntries}
 use Rattle.schema.specs.Psch.{schemaOf, structHere}
 use Rattle.schema.specs.Index.{lastPlace}
@@ -24,16 +25,17 @@ use Rattle.layout.specs.Build.{sheetOk, workNeed, capOf, layoutWith, layoutOf, 
 use Rattle.rounds.specs.declared.opening.Opening.{Opening}
 use Rattle.rounds.specs.declared.opening.Opening.the-variants as O
 use Rattle.rounds.specs.Run.{Roomy}
-use Rattle.rounds.specs.Merge.{Opens, roomedAt}
+use Rattle.rounds.specs.Merge.{Opens, roomedAt, rootedAt, schemedAt, openingOf}
 
 -- the check's answer
-pub sheet-bad : (T F : Bytes) (n k : ℕ) (s : Sheet) → s ≡ checked T → numberOf s ≡ some k → Opens T F n (O.Refused k)
-unfolding sheetOk build layout andThen
-sheet-bad T F n k s e f size room = let g : numberOf (checked T) ≡ some k = ap numberOf (sym e) ∙ f in rw g refl
+module _ (T F : Bytes) (n : ℕ) (s : Sheet) (e : s ≡ checked T) where
+  pub sheet-bad : (k : ℕ) → numberOf s ≡ some k → O.Refused k ≡ openingOf T F n
+  unfolding openingOf mapResult sheetOk
+  sheet-bad k f = let g : numberOf (checked T) ≡ some k = ap numberOf (sym e) ∙ f in rw g refl
 
-pub sheet-good : (T : Bytes) (s : Sheet) → s ≡ checked T → numberOf s ≡ none → sheetOk T ≡ ok tt
-unfolding sheetOk
-sheet-good T s e f = let g : numberOf (checked T) ≡ none = ap numberOf (sym e) ∙ f in rw g refl
+  pub sheet-good : numberOf s ≡ none → schemedAt T F n ≡ openingOf T F n
+  unfolding openingOf mapResult sheetOk
+  sheet-good f = let g : numberOf (checked T) ≡ none = ap numberOf (sym e) ∙ f in rw g refl
 
 -- 4, 5, 6
 schema-number : (r : Result Schema) (k : ℕ) → C.Refused k ≡ checkedIs (mapResult indexEntries r) → r ≡ refused k
@@ -41,18 +43,29 @@ unfolding mapResult
 schema-number (ok S) k e = let z : _≡_ {A = ℕ} 0 1 = cc in absurd (omega arith)
 schema-number (refused m) k e = let z : k ≡ m = cc in ap refused (sym z)
 
-pub schema-bad : (T F : Bytes) (n k : ℕ) (q : Checked) → q ≡ checkedIs (mapResult indexEntries (schemaOf F)) → q ≡ C.Refused k → sheetOk T ≡ ok tt → Opens T F n (O.Refused k)
-unfolding build layout andThen
-schema-bad T F n k q e f g size room = let h : schemaOf F ≡ refused k = schema-number (schemaOf F) k (sym f ∙ e) in rw (g, h) refl
+pub schema-bad : (T F : Bytes) (n k : ℕ) (q : Checked) → q ≡ checkedIs (mapResult indexEntries (schemaOf F)) → q ≡ C.Refused k → O.Refused k ≡ schemedAt T F n
+unfolding schemedAt mapResult
+schema-bad T F n k q e f = let h : schemaOf F ≡ refused k = schema-number (schemaOf F) k (sym f ∙ e) in rw h refl
 
--- the schema, with its index entries
-pub schema-good : (F : Bytes) (i : ℕ) (q : Checked) → q ≡ checkedIs (mapResult indexEntries (schemaOf F)) → q ≡ C.Sound i → (S : Schema) × ((schemaOf F ≡ ok S) × (indexEntries S ≡ i))
-unfolding mapResult
-schema-good F i q e f = go (schemaOf F) refl (sym f ∙ e)
+-- the schema's index entries
+pub schema-good : (T F : Bytes) (n i : ℕ) (q : Checked) → q ≡ checkedIs (mapResult indexEntries (schemaOf F)) → q ≡ C.Sound i → rootedAt T F n i ≡ schemedAt T F n
+unfolding schemedAt mapResult
+schema-good T F n i q e f = go (schemaOf F) refl (sym f ∙ e)
   where
-    go : (r : Result Schema) → schemaOf F ≡ r → C.Sound i ≡ checkedIs (mapResult indexEntries r) → (S : Schema) × ((schemaOf F ≡ ok S) × (indexEntries S ≡ i))
-    go (ok S) p g = let z : i ≡ indexEntries S = cc in (S, (p, sym z))
+    go : (r : Result Schema) → schemaOf F ≡ r → C.Sound i ≡ checkedIs (mapResult indexEntries r) → rootedAt T F n i ≡ schemedAt T F n
+    go (ok S) p g = let z : i ≡ indexEntries S = cc in rw p (ap (rootedAt T F n) z)
     go (refused m) p g = let z : _≡_ {A = ℕ} 0 1 = cc in absurd (omega arith)
+
+-- by what the look-up of the root's name found
+module _ (T F : Bytes) (n i name : ℕ) (q : Found) (named : name ≡ row T 0 .a) (f : foundIs q ≡ lastPlace F 0 name) where
+  pub root-unknown : q ≡ Fd.Nothing → O.Refused 7 ≡ rootedAt T F n i
+  unfolding rootedAt mapResult needed
+  root-unknown e = let h : lastPlace F 0 (row T 0 .a) ≡ none = ap (lastPlace F 0) (sym named) ∙ sym f ∙ ap foundIs e in rw h refl
+
+  pub root-found : (place : ℕ) → q ≡ Fd.At place → roomedAt n i place name ≡ rootedAt T F n i
+  unfolding rootedAt mapResult needed
+  root-found place e =
+      let h : lastPlace F 0 (row T 0 .a) ≡ some place = ap (lastPlace F 0) (sym named) ∙ sym f ∙ ap foundIs e in rw h (ap (roomedAt n i place) named)
 
 -- the rooms
 pub roomed-short : (n i place name : ℕ) → n < workNeed i → O.Refused 12 ≡ roomedAt n i place name
@@ -73,36 +86,37 @@ roomy : (n i : ℕ) → workNeed i ≤ n → Roomy (record { entries = i; cap = 
 unfolding capOf
 roomy n i h = (omega arith, omega (arith, h))
 
--- the root's definition
-module _ (T F : Bytes) (S : Schema) (n name : ℕ) (sheet : sheetOk T ≡ ok tt) (whole : schemaOf F ≡ ok S) (named : name ≡ row T 0 .a) where
+-- what it says of building
+module _ (T F : Bytes) (n : ℕ) where
+  -- 12, or the layout
+  rooms : (S : Schema) (d : StructDef) (place : ℕ) → sheetOk T ≡ ok tt → schemaOf F ≡ ok S → winning S .struct (row T 0 .a) ≡ some d → lastPlace F 0 (row T 0 .a) ≡ some place
+      → (b : Bool) → ltb n (workNeed (indexEntries S)) ≡ b → Opens T F n (roomedAt n (indexEntries S) place (row T 0 .a))
+  unfolding build layout layoutOf layoutWith andThen needed
+  rooms S d place sheet whole wins found true e = rw e (λ size room. rw (sheet, whole, wins, e) refl)
+  rooms S d place sheet whole wins found false e =
+      rw e (
+        record { schema = S; def = d; whole = whole; entries = refl; wins = wins; found = found },
+        (roomy n (indexEntries S) (ltb-false n (workNeed (indexEntries S)) e), refl, λ size room. rw (sheet, whole, wins, e) refl),
+      )
+
   -- 7
-  pub root-missing : winning S .struct name ≡ none → Opens T F n (O.Refused 7)
-  unfolding build layout layoutOf andThen needed
-  root-missing e size room = let f : winning S .struct (row T 0 .a) ≡ none = ap (winning S .struct) (sym named) ∙ e in rw (sheet, whole, f) refl
+  roots : (S : Schema) → sheetOk T ≡ ok tt → schemaOf F ≡ ok S → (o : Option ℕ) → lastPlace F 0 (row T 0 .a) ≡ o → Opens T F n (rootedAt T F n (indexEntries S))
+  unfolding rootedAt mapResult build layout layoutOf andThen needed
+  roots S sheet whole none e =
+      let f : winning S .struct (row T 0 .a) ≡ none = winning-struct F (row T 0 .a) Fd.Nothing S whole (sym e) in rw e (λ size room. rw (sheet, whole, f) refl)
+  roots S sheet whole (some place) e =
+      let f : winning S .struct (row T 0 .a) ≡ some (structHere F (row T 0 .a) place) = winning-struct F (row T 0 .a) (Fd.At place) S whole (sym e) in
+      rw e (rooms S (structHere F (row T 0 .a) place) place sheet whole f e (ltb n (workNeed (indexEntries S))) refl)
 
-  module _ (d : StructDef) (place : ℕ) (wins : winning S .struct name ≡ some d) (found : lastPlace F 0 name ≡ some place) where
-    -- 12, or the layout
-    there : (b : Bool) → ltb n (workNeed (indexEntries S)) ≡ b → Opens T F n (roomedAt n (indexEntries S) place name)
-    unfolding build layout layoutOf layoutWith andThen needed
-    there true e = rw e (λ size room. let f : winning S .struct (row T 0 .a) ≡ some d = ap (winning S .struct) (sym named) ∙ wins in rw (sheet, whole, f, e) refl)
-    there false e =
-        rw e (
-          record { schema = S; def = d; whole = whole; entries = refl; wins = wins; found = found },
-          (
-            roomy n (indexEntries S) (ltb-false n (workNeed (indexEntries S)) e),
-            refl,
-            λ size room. let f : winning S .struct (row T 0 .a) ≡ some d = ap (winning S .struct) (sym named) ∙ wins in rw (sheet, whole, f, e) refl,
-          ),
-        )
+  schemas : sheetOk T ≡ ok tt → (r : Result Schema) → schemaOf F ≡ r → Opens T F n (schemedAt T F n)
+  unfolding schemedAt mapResult build layout andThen
+  schemas sheet (ok S) e = rw e (roots S sheet e (lastPlace F 0 (row T 0 .a)) refl)
+  schemas sheet (refused k) e = rw e (λ size room. rw (sheet, e) refl)
 
-    pub root-there : (i : ℕ) → indexEntries S ≡ i → (r : Opening) → r ≡ roomedAt n i place name → Opens T F n r
-    root-there i e r q = subst (Opens T F n) (sym (q ∙ ap (λ (k : ℕ). roomedAt n k place name) (sym e))) (there (ltb n (workNeed (indexEntries S))) refl)
+  sheets : (r : Result (Unit {0})) → sheetOk T ≡ r → Opens T F n (openingOf T F n)
+  unfolding openingOf mapResult build layout andThen
+  sheets (ok tt) e = rw e (schemas e (schemaOf F) refl)
+  sheets (refused k) e = rw e (λ size room. rw e refl)
 
-  -- by what the look-up found
-  pub root-found : (q : Found) (place : ℕ) → q ≡ Fd.At place → foundIs q ≡ lastPlace F 0 name → winning S .struct name ≡ structFound F name q
-      → (i : ℕ) → indexEntries S ≡ i → (r : Opening) → r ≡ roomedAt n i place name → Opens T F n r
-  root-found q place e f g =
-      root-there (structHere F name place) place (g ∙ ap (structFound F name) e) (sym f ∙ ap foundIs e)
-
-  pub root-unknown : (q : Found) → q ≡ Fd.Nothing → winning S .struct name ≡ structFound F name q → Opens T F n (O.Refused 7)
-  root-unknown q e g = root-missing (g ∙ ap (structFound F name) e)
+  pub opens : (r : Opening) → r ≡ openingOf T F n → Opens T F n r
+  opens r e = subst (Opens T F n) (sym e) (sheets (sheetOk T) refl)

@@ -1,16 +1,19 @@
 -- The merge of the rounds' rows into the lent list. Its invariant: what is left leads to the same end.
 use mathlib.Core.Path.{_≡_}
 use Prim.Native.Nat.{ℕ, _+_, _*_, _-_, _<_, _≤_}
-use mathlib.Core.Bool.{true, false, cond}
+use mathlib.Core.Bool.{true, false, cond, _||_}
 use mathlib.Core.List.{List, [], _++_}
 use lib.Dec.{ltb, eqb}
 use lib.ListN.{length, getD, take, drop}
 use Rattle.numbers.specs.Words.{Bytes, zeros}
-use Rattle.numbers.specs.Result.{Result, ok, refused}
-use Rattle.schema.specs.Defs.{Schema, winning}
+use Rattle.numbers.specs.Result.{Result, ok, refused, mapResult, needed}
+use Rattle.value.specs.Rows.{row}
+use Rattle.schema.specs.Defs.{Schema, winning, indexEntries}
+use Rattle.schema.specs.Psch.{schemaOf}
+use Rattle.schema.specs.Index.{lastPlace}
 use Rattle.layout.specs.State.{Remark, sameRemark, thinned, thin, eventsOf}
 use Rattle.layout.specs.Build as Build
-use Rattle.layout.specs.Build.{build, zeroRemark, workNeed, capOf}
+use Rattle.layout.specs.Build.{build, zeroRemark, sheetOk, workNeed, capOf}
 use Rattle.area.specs.declared.Round.{Round}
 use Rattle.area.specs.declared.Progress.{Progress}
 use Rattle.area.specs.Rows.{rowIn, rowsIn}
@@ -49,6 +52,10 @@ refusalOf j k =
 -- the list holds all remarks, and the file has n bytes
 abbrev pub endedAt : Stage → ℕ → Stage
 endedAt st n = record { at = st .count; last = true; length = n; base = st .base; count = st .count; row = st .row; job = st .job }
+
+-- all rows are merged, and the file has n bytes: the layout's own refusal; 13, "longer than the output or than 16,777,216"; or the end
+unfoldable pub judgedAt : ℕ → Stage → ℕ → Stage
+judgedAt size st n = cond (st .job .good) (cond (ltb size n || ltb 16777216 n) (refusalOf (st .job) 13) (endedAt st n)) (refusalOf (st .job) (st .job .value))
 
 -- another record is looked at
 abbrev pub movedTo : Stage → ℕ → Stage
@@ -159,3 +166,20 @@ Opens T F n (O.Go R place name) =
 -- the rooms of a work area of n bytes; 12
 abbrev pub roomedAt : ℕ → ℕ → ℕ → ℕ → Opening
 roomedAt n i place name = cond (ltb n (workNeed i)) (O.Refused 12) (O.Go (record { entries = i; cap = capOf n i; skip = 0 }) place name)
+
+-- what follows, or the refusal before it
+abbrev pub openingIs : Result Opening → Opening
+openingIs (ok o) = o
+openingIs (refused k) = O.Refused k
+
+-- 7: "the root type has no definition"; then the rooms. i index entries
+unfoldable pub rootedAt : Bytes → Bytes → ℕ → ℕ → Opening
+rootedAt T F n i = openingIs (mapResult (λ place. roomedAt n i place (row T 0 .a)) (needed (lastPlace F 0 (row T 0 .a)) 7))
+
+-- 4, 5, 6; then the root
+unfoldable pub schemedAt : Bytes → Bytes → ℕ → Opening
+schemedAt T F n = openingIs (mapResult (λ S. rootedAt T F n (indexEntries S)) (schemaOf F))
+
+-- 1, 2, 3; then the schema
+unfoldable pub openingOf : Bytes → Bytes → ℕ → Opening
+openingOf T F n = openingIs (mapResult (λ _. schemedAt T F n) (sheetOk T))

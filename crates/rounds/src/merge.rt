@@ -10,8 +10,9 @@ ghost use mathlib.Core.Path.{_≡_};
 ghost use lib.ListN.{length};
 ghost use Rattle.numbers.specs.Words.{zeros};
 ghost use Rattle.area.specs.Posts.{Safe};
+ghost use Rattle.assemble.specs.Packed.{lengthOf};
 ghost use Rattle.rounds.specs.Run.{Roomy, Rooted};
-ghost use Rattle.rounds.specs.Merge.{noJob, refusalOf, soughtAt, jobOf, Judges, Takes};
+ghost use Rattle.rounds.specs.Merge.{noJob, refusalOf, judgedAt, soughtAt, jobOf, Judges, Takes};
 
 // Before any round.
 pub fn no_job() -> Job
@@ -105,6 +106,7 @@ fn job_of(r: Ran, round: Round, place: usize, name: u32) -> Job
 // All rows are merged: the layout's own answer; 13 where the file is too long.
 pub fn judged(schema: &[u8], work: &[u8], size: usize, st: Stage) -> Stage
     requires { ⌜ Safe (st .job .round) (length (now work)) (st .job .p) ⌝ }
+    ensures { λ r. ⌜ r ≡ judgedAt size st (lengthOf (now (schema .entry)) (st .job .round) (st .job .p) (now (work .entry))) ⌝ }
     ensures { λ r. ⌜ Judges (now (schema .entry)) size st (now (work .entry)) r ⌝ }
 {
     let j = st.job;

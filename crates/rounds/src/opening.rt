@@ -8,11 +8,7 @@ use sheet::Sheet;
 use sheet::check_sheet;
 use value::read_row;
 ghost use mathlib.Core.Path.{_≡_};
-ghost use Rattle.numbers.specs.Result.{ok};
-ghost use Rattle.schema.specs.Defs.{Schema, indexEntries};
-ghost use Rattle.schema.specs.Psch.{schemaOf};
-ghost use Rattle.layout.specs.Build.{sheetOk};
-ghost use Rattle.rounds.specs.Merge.{roomedAt, Opens};
+ghost use Rattle.rounds.specs.Merge.{Opens, roomedAt, rootedAt, schemedAt, openingOf};
 
 // What is refused before the layout; or what it runs with: the round, the root's place and name.
 pub enum Opening {
@@ -44,8 +40,7 @@ fn roomed(work: usize, entries: usize, place: usize, name: u32) -> Opening
 
 // The root's definition: 7; then 12.
 fn rooted(sheet: &[u8], schema: &[u8], work: usize, entries: usize) -> Opening
-    ensures { λ r. ⌜ ((S : Schema) → schemaOf (now (schema .entry)) ≡ ok S → indexEntries S ≡ entries → sheetOk (now (sheet .entry)) ≡ ok tt
-        → Opens (now (sheet .entry)) (now (schema .entry)) work r) ⌝ }
+    ensures { λ r. ⌜ r ≡ rootedAt (now (sheet .entry)) (now (schema .entry)) work entries ⌝ }
 {
     let root = read_row(sheet, 0);
     let name = root.a;
@@ -57,7 +52,7 @@ fn rooted(sheet: &[u8], schema: &[u8], work: usize, entries: usize) -> Opening
 
 // The schema: 4, 5, 6; then the root.
 fn schemed(sheet: &[u8], schema: &[u8], work: usize) -> Opening
-    ensures { λ r. ⌜ (sheetOk (now (sheet .entry)) ≡ ok tt → Opens (now (sheet .entry)) (now (schema .entry)) work r) ⌝ }
+    ensures { λ r. ⌜ r ≡ schemedAt (now (sheet .entry)) (now (schema .entry)) work ⌝ }
 {
     match check_schema(schema) {
         Checked::Refused(k) => Opening::Refused(k),
@@ -67,6 +62,7 @@ fn schemed(sheet: &[u8], schema: &[u8], work: usize) -> Opening
 
 // What is judged before the layout, for a work area of `work` bytes: the sheet, 1, 2, 3; the schema, the root's definition, the work area.
 pub fn opened(sheet: &[u8], schema: &[u8], work: usize) -> Opening
+    ensures { λ r. ⌜ r ≡ openingOf (now (sheet .entry)) (now (schema .entry)) work ⌝ }
     ensures { λ r. ⌜ Opens (now (sheet .entry)) (now (schema .entry)) work r ⌝ }
 {
     match check_sheet(sheet) {

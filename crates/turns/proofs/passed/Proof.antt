@@ -18,7 +18,7 @@ passed-spec =
     (λ c κs. search needs) (λ c. search needs)
     (λ c.
     let a = c .before .before .before .before .before .before .before .before .before .before .before .args in
-    pass-end (a .sheet .now) (a .schema .now) (a .size) (a .room) (a .st) (a .work .now) (c .before .before .before .before .if1 .left) (c .before .before .if2 .taken) (c .judged .result) (c .judged .ensures))
+    pass-end (a .sheet .now) (a .schema .now) (a .size) (a .room) (a .st) (a .work .now) (c .before .before .before .before .if1 .left) (c .before .before .if2 .taken) (c .judged .result) (c .judged .ensures .1))
     (λ c κs. search needs)
     (λ c κs.
     let a = c .before .before .before .before .before .before .before .before .before .before .before .before .before .before .before .args in

@@ -26,7 +26,7 @@ take-round-spec =
     let w = r .last .1 .1 .0 in
     take-none (a .sheet .now) (a .schema .now) (a .size) (a .room) (a .round) (a .place) (a .name) (a .count) w (r .result)
     (run-at (a .sheet .now) (a .schema .now) (a .size) (a .room) (a .round) (a .place) (a .name) (a .count) w (length (a .work .now)) (r .result) (c .before .before .before .before .before .before .work .given) (r .ensures)) (c .before .before .before .before .job-of .result) (c .before .before .before .before .job-of .ensures)
-    (c .before .before .if1 .taken) (c .judged .result) (c .judged .ensures))
+    (c .before .before .if1 .taken) (c .judged .result) (c .judged .ensures .1))
     (λ c κs. search needs) (λ c. search needs)
     (λ c.
     let a = c .before .before .before .before .before .before .before .before .before .before .before .args in

@@ -1,5 +1,5 @@
 -- `rounds::opening::rooted` meets its contract. Assumes nothing.
-use mathlib.Core.Path.{ap}
+use mathlib.Core.Path.{ap, _∙_}
 use borrow.Author.Needs.{needs}
 use Rattle.rounds.proofs.Openings.{root-found, root-unknown}
 use Rattle.rounds.proofs.opening.rooted.Statement.{statement}
@@ -12,10 +12,13 @@ rooted-spec =
     (λ c κs. search needs) (λ c κs. search needs) (λ c. search needs) (λ c. search needs) (λ c κs. search needs)
     (λ c.
     let a = c .before .before .before .before .before .before .args in
+    let v = c .before .before .before .read-row in
     let q = c .before .before .find-structure in
-    λ S w i s. root-unknown (a .sheet .now) (a .schema .now) S (a .work) (c .before .before .before .read-row .result .a) s w (ap (λ v. v .a) (c .before .before .before .read-row .ensures)) (q .result) (c .enum-told .given .1) (q .ensures .1 S w))
+    root-unknown (a .sheet .now) (a .schema .now) (a .work) (a .entries) (v .result .a) (q .result) (ap (λ x. x .a) (v .ensures)) (q .ensures .0) (c .enum-told .given .1))
     (λ c.
     let a = c .before .before .before .before .before .before .before .before .args in
+    let v = c .before .before .before .before .before .read-row in
     let q = c .before .before .before .before .find-structure in
-    λ S w i s. root-found (a .sheet .now) (a .schema .now) S (a .work) (c .before .before .before .before .before .read-row .result .a) s w (ap (λ v. v .a) (c .before .before .before .before .before .read-row .ensures)) (q .result) (c .before .before .place .given .0 .0) (c .before .before .place .given .1)
-    (q .ensures .0) (q .ensures .1 S w) (a .entries) i (c .roomed .result) (c .roomed .ensures)))
+    c .roomed .ensures
+    ∙ root-found (a .sheet .now) (a .schema .now) (a .work) (a .entries) (v .result .a) (q .result) (ap (λ x. x .a) (v .ensures)) (q .ensures .0) (c .before .before .place .given .0 .0)
+    (c .before .before .place .given .1)))

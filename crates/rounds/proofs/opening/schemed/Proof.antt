@@ -1,4 +1,5 @@
 -- `rounds::opening::schemed` meets its contract. Assumes nothing.
+use mathlib.Core.Path.{_∙_}
 use borrow.Author.Needs.{needs}
 use Rattle.rounds.proofs.Openings.{schema-bad, schema-good}
 use Rattle.rounds.proofs.opening.schemed.Statement.{statement}
@@ -16,5 +17,5 @@ schemed-spec =
     (λ c.
     let a = c .before .before .before .before .before .before .before .args in
     let q = c .before .before .before .before .check-schema in
-    let s = schema-good (a .schema .now) (c .before .before .entries .given .0 .0) (q .result) (q .ensures) (c .before .before .entries .given .1) in
-    c .rooted .ensures (s .0) (s .1 .0) (s .1 .1)))
+    let i = c .before .before .entries .given in
+    c .rooted .ensures ∙ schema-good (a .sheet .now) (a .schema .now) (a .work) (i .0 .0) (q .result) (q .ensures) (i .1)))
