@@ -8,7 +8,8 @@ use numbers::words::read_u32;
 use numbers::words::same;
 ghost use mathlib.Core.Path.{_≡_};
 ghost use Prim.Native.Nat.{_<_};
-ghost use lib.ListN.{length, replicate};
+ghost use lib.ListN.{length, drop, replicate};
+ghost use Rattle.vectors.specs.Judge.{recordOf, noise, allAre, wantedAt, recordsAre, agreesWith, readsAs};
 
 // The byte that fills every area before a case.
 const NOISE: u8 = 165;
@@ -23,7 +24,9 @@ pub fn fill(s: &mut [u8])
     }
 }
 
-fn record(n: u32) -> Remark {
+fn record(n: u32) -> Remark
+    ensures { λ r. ⌜ r ≡ recordOf n ⌝ }
+{
     Remark {
         kind: n,
         structure: n,
@@ -32,13 +35,17 @@ fn record(n: u32) -> Remark {
     }
 }
 
-pub fn noises() -> [Remark; 64] {
+pub fn noises() -> [Remark; 64]
+    ensures { λ r. ⌜ r ≡ replicate 64 noise ⌝ }
+{
     let r = record(2779096485);
     [r; 64]
 }
 
 // Whether all bytes from `at` on are b.
-fn all_are(s: &[u8], at: usize, b: u8) -> bool {
+fn all_are(s: &[u8], at: usize, b: u8) -> bool
+    ensures { λ r. ⌜ r ≡ allAre b (drop at (now (s .entry))) ⌝ }
+{
     let mut i = at;
     while i < s.len() {
         if s[i] != b {
@@ -52,6 +59,7 @@ fn all_are(s: &[u8], at: usize, b: u8) -> bool {
 // Record i as it must be: a remark, then zeros, then noise behind the records that were lent.
 fn wanted(s: &[u8], count: usize, n: usize, i: usize) -> Remark
     requires { ⌜ i < 64 ⌝ }
+    ensures { λ r. ⌜ r ≡ wantedAt (now (s .entry)) count n i ⌝ }
 {
     if i < count {
         row_at(s, 16 * i)
@@ -61,7 +69,9 @@ fn wanted(s: &[u8], count: usize, n: usize, i: usize) -> Remark
 }
 
 // Whether all 64 records are as they must be; s has the recorded remarks.
-fn records(s: &[u8], count: usize, n: usize, list: [Remark; 64]) -> bool {
+fn records(s: &[u8], count: usize, n: usize, list: [Remark; 64]) -> bool
+    ensures { λ r. ⌜ r ≡ recordsAre (now (s .entry)) count n list 64 ⌝ }
+{
     let mut i: usize = 0;
     while i < 64 {
         if !same_remark(list[i], wanted(s, count, n, i)) {
@@ -82,7 +92,9 @@ pub fn agrees(
     len: usize,
     count: usize,
     list: [Remark; 64],
-) -> bool {
+) -> bool
+    ensures { λ r. ⌜ r ≡ agreesWith (now (row .entry)) (now (work .entry)) (now (out .entry)) n code len count list ⌝ }
+{
     let at = 40 + (read_u32(row, 8) as usize) + (read_u32(row, 12) as usize);
     let size = read_u32(row, 32) as usize;
     let c = (code == read_u32(row, 28)) & (len == size) & (count == read_u32(row, 36) as usize);
@@ -92,14 +104,9 @@ pub fn agrees(
 }
 
 // Whether a file has the recorded reading.
-pub fn is_reading(
-    row: &[u8],
-    code: u32,
-    root: u32,
-    place: usize,
-    len: usize,
-    blocks: usize,
-) -> bool {
+pub fn is_reading(row: &[u8], code: u32, root: u32, place: usize, len: usize, blocks: usize) -> bool
+    ensures { λ r. ⌜ r ≡ readsAs (now (row .entry)) code root place len blocks ⌝ }
+{
     let a = (code == read_u32(row, 12)) & (root == read_u32(row, 16));
     let b = (place == read_u32(row, 20) as usize) & (len == read_u32(row, 24) as usize);
     a & b & (blocks == read_u32(row, 28) as usize)

@@ -1,0 +1,2 @@
+-- What the answers of the replay say.
+pub mod Judge
