@@ -1,5 +1,6 @@
 // Replays recorded answers of the reference: standard input has the entries of an enum, then rows, each its length, its answers,
-// and the sheet that they were given for (differential/leaves/run record). A line for each coercion says how many answers agree.
+// and the sheet that they were given for (differential/leaves/run record). A line for each coercion says how many answers agree; the last
+// line says it of published hash values.
 ghost use Prim.Native.Nat.{_≤_, _<_};
 use coerce::vector::Vector;
 use coerce::vector::vec_of;
@@ -154,6 +155,21 @@ fn lines(all: &[u8]) {
     line(b"flags_bits", all, 8);
 }
 
+// Published values of the one-at-a-time hash, of bytes as they are: the empty key; two of Wikipedia's "Jenkins hash function"; Adder of
+// ScriptHookVDotNet's `VehicleHash`.
+fn published() -> u64 {
+    one(rage_joaat(b"") == 0)
+        + one(rage_joaat(b"a") == 0xCA2E9442)
+        + one(rage_joaat(b"The quick brown fox jumps over the lazy dog") == 0x519E91F5)
+        + one(rage_joaat(b"adder") == 0xB779A091)
+}
+
+fn published_line() {
+    io::write_all(STDOUT_FILENO, b"rage_joaat: ");
+    io::print_decimal(STDOUT_FILENO, published());
+    io::write_all(STDOUT_FILENO, b" of 4 published values agree\n");
+}
+
 fn read_all(space: &mut [u8]) -> usize {
     io::read_full(0, space)
 }
@@ -166,4 +182,5 @@ fn main() {
     let mut space = io::large_buffer();
     let n = read_all(&mut space);
     lines_of(&space, n);
+    published_line();
 }
