@@ -1,6 +1,6 @@
 -- `pso_write::build_pso` meets its contract: a walk of its MIR, by hand, with one loop and no branch.
--- A turn lends the list as a `&` to `load`, the work area to `turn` and the list to `store`; after the loop the list is lent to `zero_rest`. What it says is `Inv`, which the walk carries and never opens:
--- `turn` keeps it, and leaves fewer turns. Assumes nothing.
+-- A turn lends the list as a `&` to `load`, the work area to `step` and the list to `store`; after the loop the list is lent to `zero_rest`. What it says is `Inv`, which the walk carries and never opens:
+-- `step` keeps it, and leaves fewer turns. Assumes nothing.
 mod Types
 mod Asks
 mod Driven
