@@ -4,24 +4,60 @@ use Prim.Native.Nat.{ℕ, suc, _+_, _^_, _≤_, _<_}
 use native.Mathlib.Omega.{arith}
 use mathlib.Core.Path.{_≡_, refl, sym, _∙_, ap, subst}
 use mathlib.Core.Bool.{Bool, true, false, cond, _&&_}
-use mathlib.Core.List.{List, [], _∷_, _++_}
+use mathlib.Core.List.{List, [], _∷_, _++_, map, append-nil, append-assoc}
 use mathlib.Core.Option.{Option, some}
 use lib.Dec.{eqb, leb}
 use lib.ListN.{length, length-append}
-use borrow.Author.Tests.{leb-true}
+use borrow.Author.Tests.{leb-true, eqb-true}
 use Rattle.numbers.specs.Words.{Bytes, readAt, bytesOf, over, isEmpty}
 use Rattle.numbers.specs.Result.{given, nth}
 use Rattle.numbers.proofs.Bytes.{length-bytes, number-of}
 use Rattle.numbers.proofs.Laws.{length-over, read-over, read-before}
 use Rattle.value.specs.Rows.{Row, fieldsOf}
 use Rattle.schema.specs.Defs.{StructDef, Member}
-use Rattle.layout.specs.State.{Block, Core, State, Env, Out, done, stop, M, Spot, spot, pointerAt, file, after, bind, ret, ifM, optM, pay, withCharge, settle, onCore, addItem, addItemC}
+use Rattle.layout.specs.State.{Block, Core, State, Env, Out, done, stop, M, Spot, spot, past, pointerAt, maxBlock, file, after, bind, ret, ifM, optM, pay, withCharge, settle, onCore, addItem, addItemC}
 use Rattle.layout.specs.Members.{need, slotSize, putPointer, putCounted, addString, textSlot}
 use Rattle.layout.specs.Runs.{Writer, Run, ownType, pointed}
 use Rattle.layout.specs.Write.{laidRun}
 use Rattle.layout.specs.Always.{Formed}
-use Rattle.layout.specs.Slots.{Lays, Points, PointsFirst}
+use Rattle.layout.specs.Slots.{Further, Lays, Points, PointsFirst}
 use Rattle.layout.proofs.Tiling.{spot-case}
+
+-- the names of blocks
+abbrev names : List Block → List ℕ
+names bs = map (λ b. b .name) bs
+
+-- an item renames no block, and opens at most one
+spot-names : (n need : ℕ) (bs : List Block) → (more : List ℕ) × (names (spot n need bs .blocks) ≡ names bs ++ more)
+unfolding spot
+spot-names n need [] = (n ∷ [], refl)
+spot-names n need (b ∷ bs) = go (eqb (b .name) n) refl (leb (b .len + need) maxBlock) (spot-names n need bs)
+  where
+    go : (t : Bool) → eqb (b .name) n ≡ t → (f : Bool) → (more : List ℕ) × (names (spot n need bs .blocks) ≡ names bs ++ more)
+        → (more : List ℕ)
+        × (names (cond (t && f) (record { before = 0; start = b .len; blocks = record { name = n; len = b .len + need } ∷ bs }) (past b (spot n need bs)) .blocks) ≡ names (b ∷ bs) ++ more)
+    go true e true h = ([], ap (λ (k : ℕ). k ∷ names bs) (sym (eqb-true (b .name) n e)) ∙ sym (append-nil (names (b ∷ bs))))
+    go true e false (more, h) = (more, ap (b .name ∷_) h)
+    go false e f (more, h) = (more, ap (b .name ∷_) h)
+
+-- what stands once stands further on
+pub further-same : (c : Core) → Further c c
+further-same c = record { moreItems = []; items = sym (append-nil (c .items)); moreBlocks = []; blocks = sym (append-nil (names (c .blocks))) }
+
+pub further-then : (a b c : Core) → Further a b → Further b c → Further a c
+further-then a b c f g =
+    record {
+      moreItems = f .moreItems ++ g .moreItems;
+      items = g .items ∙ ap (λ l. l ++ g .moreItems) (f .items) ∙ append-assoc (a .items) (f .moreItems) (g .moreItems);
+      moreBlocks = f .moreBlocks ++ g .moreBlocks;
+      blocks = g .blocks ∙ ap (λ l. l ++ g .moreBlocks) (f .blocks) ∙ append-assoc (names (a .blocks)) (f .moreBlocks) (g .moreBlocks);
+    }
+
+pub further-file : (bs : Bytes) (n : ℕ) (c : Core) → Further c (file bs (pointerAt (spot n (length bs) (c .blocks))) c (spot n (length bs) (c .blocks)))
+unfolding file
+further-file bs n c =
+    let (more, e) = spot-names n (length bs) (c .blocks) in
+    record { moreItems = _ ∷ []; items = refl; moreBlocks = more; blocks = e }
 
 -- laying an item
 
@@ -68,6 +104,7 @@ adds n bs s = go (leb (suc (p .before)) 4095) refl (leb (p .start) 0xFFFFF) refl
                 filed = q;
                 named = m;
                 pointer = refl;
+                stays = (unfold file in further-file bs n (s .core));
               };
           formed = refl;
           most = leb-true (suc (p .before)) 4095 e;

@@ -28,7 +28,11 @@ use Rattle.layout.proofs.Puts.{o-opt, o-leaves, o-wrong, o-need, o-text
 
 -- members whose turn has come: the structure has its full length, so a slot that fits lies inside it
 
-module _ (E : Env) (w : Writer) (d : StructDef) (e : Member) (v : Value) (buf : Bytes) (s : State) (l : length buf ≡ d .size) where
+module _ (E : Env) (fuel left : ℕ) (d : StructDef) (e : Member) (v : Value) (buf : Bytes) (s : State) (l : length buf ≡ d .size) where
+  -- the structures that members lead to are written by
+  abbrev w : Writer
+  w = write E fuel left
+
   text-member : TextSlot E w d e v buf s
   unfolding member textMember pointerMember need ifM optM
   text-member t k p h q z =
@@ -53,30 +57,30 @@ module _ (E : Env) (w : Writer) (d : StructDef) (e : Member) (v : Value) (buf : 
       rw (k, b, h, m, pointed-is E w d e (e .reference) (rowOf E v) s i bs t f g, there)
       (points (i .name) bs (t .core) (e .offset) _ (λ p q. put-read buf (e .offset) p (omega (arith, leb-true (e .offset + 8) (d .size) h, l)) q) (addItem (i .name) bs t) (adds (i .name) bs t))
 
-  text-only : Kinds.kindOf (e .type) ≡ Kinds.text → isPointerText (e .subtype) ≡ true → PutsOnly buf (e .offset) (step E w d e v buf s)
+  text-only : Kinds.kindOf (e .type) ≡ Kinds.text → isPointerText (e .subtype) ≡ true → PutsOnly (s .core) buf (e .offset) (step E w d e v buf s)
   unfolding member textMember pointerMember ifM
   text-only k p =
       rw (k, not-fixed (e .subtype) p, p)
-      (o-need d e buf (e .offset) (slotSize (e .subtype)) _ (λ h. o-opt buf (e .offset) (strOf (E .sheet) (rowOf E v)) _ _ (o-wrong d e v buf (e .offset)) (λ t. o-text E (e .subtype) t buf (e .offset) (omega (arith, h, l)))) s)
+      (o-need E d e buf (e .offset) (slotSize (e .subtype)) _ (λ h. o-opt buf (e .offset) (strOf (E .sheet) (rowOf E v)) _ _ (o-wrong E d e v buf (e .offset)) (λ t. o-text E (e .subtype) t buf (e .offset) (omega (arith, h, l)))) s)
 
-  array-only : (x : Member) → Kinds.kindOf (e .type) ≡ Kinds.array → arrayInfo d e ≡ some x → byPointer (e .subtype) (x .subtype) ≡ true → PutsOnly buf (e .offset) (step E w d e v buf s)
+  array-only : (x : Member) → Kinds.kindOf (e .type) ≡ Kinds.array → arrayInfo d e ≡ some x → byPointer (e .subtype) (x .subtype) ≡ true → PutsOnly (s .core) buf (e .offset) (step E w d e v buf s)
   unfolding member arrayMember arrayOf optM ifM
   array-only x k i p = rw (k, i, p) (go (isArrayValue E (rowOf E v)))
     where
-      go : (b : Bool) → PutsOnly buf (e .offset) (ifM b (pointedArray E w d e x (childrenOf (rowOf E v)) buf) (wrong d e v buf) s)
-      go true = o-pointedArray d e E w x (childrenOf (rowOf E v)) buf l s
-      go false = o-wrong d e v buf (e .offset) s
+      go : (b : Bool) → PutsOnly (s .core) buf (e .offset) (ifM b (pointedArray E w d e x (childrenOf (rowOf E v)) buf) (wrong d e v buf) s)
+      go true = o-pointedArray d e E fuel left x (childrenOf (rowOf E v)) buf l s
+      go false = o-wrong E d e v buf (e .offset) s
 
-  struct-only : Kinds.kindOf (e .type) ≡ Kinds.structure → eqb (e .subtype) 0 ≡ false → PutsOnly buf (e .offset) (step E w d e v buf s)
+  struct-only : Kinds.kindOf (e .type) ≡ Kinds.structure → eqb (e .subtype) 0 ≡ false → PutsOnly (s .core) buf (e .offset) (step E w d e v buf s)
   unfolding member structMember ifM
   struct-only k z = rw (k, z) (go (isStructValue E (rowOf E v)))
     where
-      go : (b : Bool) → PutsOnly buf (e .offset) (ifM b (pointedMember E w d e (rowOf E v) buf) (wrong d e v buf) s)
-      go true = o-pointedMember d e E w (rowOf E v) buf l s
-      go false = o-wrong d e v buf (e .offset) s
+      go : (b : Bool) → PutsOnly (s .core) buf (e .offset) (ifM b (pointedMember E w d e (rowOf E v) buf) (wrong d e v buf) s)
+      go true = o-pointedMember d e E fuel left (rowOf E v) buf l s
+      go false = o-wrong E d e v buf (e .offset) s
 
   map-only : Kinds.kindOf (e .type) ≡ Kinds.map
-      → PutsOnly buf (e .offset + 8) (step E w d e v buf s) ⊎ PutsOnly (over buf (e .offset) (words (0x01000000 ∷ []))) (e .offset + 8) (step E w d e v buf s)
+      → PutsOnly (s .core) buf (e .offset + 8) (step E w d e v buf s) ⊎ PutsOnly (s .core) (over buf (e .offset) (words (0x01000000 ∷ []))) (e .offset + 8) (step E w d e v buf s)
   unfolding member mapMember need ifM
   map-only k = rw k (supported (eqb (e .subtype) 1))
     where
@@ -84,7 +88,7 @@ module _ (E : Env) (w : Writer) (d : StructDef) (e : Member) (v : Value) (buf : 
       marked = over buf (e .offset) (words (0x01000000 ∷ []))
 
       Either : M Bytes → Type 0
-      Either m = PutsOnly buf (e .offset + 8) (m s) ⊎ PutsOnly marked (e .offset + 8) (m s)
+      Either m = PutsOnly (s .core) buf (e .offset + 8) (m s) ⊎ PutsOnly (s .core) marked (e .offset + 8) (m s)
 
       pairs : M Bytes
       pairs = mapOf E w d e (referenceAt d (low16 (e .reference))) (pairsOf (childrenOf (rowOf E v))) marked
@@ -93,18 +97,18 @@ module _ (E : Env) (w : Writer) (d : StructDef) (e : Member) (v : Value) (buf : 
       held true h =
           let n : length (words (0x01000000 ∷ [])) ≡ 4 = length-words (0x01000000 ∷ []) in
           let o : length marked ≡ length buf = length-over buf (e .offset) (words (0x01000000 ∷ [])) (omega (arith, n, h, l)) in
-          inr (o-mapOf d e E w (referenceAt d (low16 (e .reference))) (pairsOf (childrenOf (rowOf E v))) marked (o ∙ l) h s)
-      held false h = inl (o-wrong d e v buf (e .offset + 8) s)
+          inr (o-mapOf d e E fuel left (referenceAt d (low16 (e .reference))) (pairsOf (childrenOf (rowOf E v))) marked (o ∙ l) h s)
+      held false h = inl (o-wrong E d e v buf (e .offset + 8) s)
 
       fitting : (b : Bool) → leb (e .offset + 24) (d .size) ≡ b
           → Either (ifM b (ifM (eqb (rowOf E v .kind) Map || eqb (rowOf E v .kind) Null) pairs (wrong d e v buf)) (leaves d e 1 (d .size) buf))
       fitting true q = held (eqb (rowOf E v .kind) Map || eqb (rowOf E v .kind) Null) (leb-true (e .offset + 24) (d .size) q)
-      fitting false q = inl (o-leaves d e buf (e .offset + 8) 1 (d .size) s)
+      fitting false q = inl (o-leaves E d e buf (e .offset + 8) 1 (d .size) s)
 
       supported : (b : Bool)
           → Either (ifM b (need d e 24 buf (ifM (eqb (rowOf E v .kind) Map || eqb (rowOf E v .kind) Null) pairs (wrong d e v buf))) (leaves d e 6 (e .subtype) buf))
       supported true = fitting (leb (e .offset + 24) (d .size)) refl
-      supported false = inl (o-leaves d e buf (e .offset + 8) 6 (e .subtype) s)
+      supported false = inl (o-leaves E d e buf (e .offset + 8) 6 (e .subtype) s)
 
   member-slot : MemberSlot E w d e v buf s
   member-slot =
@@ -156,7 +160,7 @@ module _ (E : Env) where
   pub slots : Slots E
   slots =
       record {
-        members = λ fuel left d fs front e behind buf s x. member-slot E (write E fuel left) d e (fieldNamed (e .name) fs) buf s (sizes E .turns fuel left d fs front e behind buf s x);
+        members = λ fuel left d fs front e behind buf s x. member-slot E fuel left d e (fieldNamed (e .name) fs) buf s (sizes E .turns fuel left d fs front e behind buf s x);
         textElements = text-elements;
         emptyTexts = empty-texts;
         structElements = struct-elements;

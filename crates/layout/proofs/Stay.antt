@@ -12,51 +12,18 @@ use Rattle.numbers.specs.Words.{Bytes}
 use Rattle.value.specs.Rows.{Fields}
 use Rattle.schema.specs.Defs.{StructDef, Member}
 use Rattle.layout.specs.State.{Item, Block, Core, State, Env, Out, done, stop, M, Spot, spot, past, pointerAt, maxBlock, file, useStructC, useEnumC, addItem, addItemC}
-use Rattle.layout.specs.Runs.{structElement, elements}
+use Rattle.layout.specs.Kinds
+use Rattle.layout.specs.Runs.{run, structElement, elements, elementRun}
 use Rattle.layout.specs.Write.{pairElement, write, root}
-use Rattle.layout.specs.Parts.{Further, Stays, OnlyAdds, LaidStays}
-use Rattle.layout.proofs.Keep.{Claim, Okay, Keeps, k-ret, k-bind, k-if}
-use Rattle.layout.proofs.Writers.{Prims, k-says, k-elements, k-textElement, k-pointerElement, k-member, k-members, k-write, k-root}
+use Rattle.layout.specs.Slots.{Further}
+use Rattle.layout.specs.Parts.{Stays, OnlyAdds, LaidStays}
+use Rattle.layout.proofs.Keep.{Claim, Okay, Keeps, k-ret, k-bind, k-if, r-keeps}
+use Rattle.layout.proofs.Writers.{Prims, k-says, k-elements, k-run, k-elementRun, k-textElement, k-pointerElement, k-member, k-members, k-write, k-root}
+use Rattle.layout.proofs.Laying.{further-same, further-then, further-file}
 use Rattle.layout.proofs.CoreOnly.{Any, onCore, c-remark, c-pay, c-core, c-useStruct, c-useEnum, addItemC-ok}
 
--- the names of blocks
-abbrev names : List Block → List ℕ
-names bs = map (λ b. b .name) bs
-
--- an item renames no block, and opens at most one
-spot-names : (n need : ℕ) (bs : List Block) → (more : List ℕ) × (names (spot n need bs .blocks) ≡ names bs ++ more)
-unfolding spot
-spot-names n need [] = (n ∷ [], refl)
-spot-names n need (b ∷ bs) = go (eqb (b .name) n) refl (leb (b .len + need) maxBlock) (spot-names n need bs)
-  where
-    go : (t : Bool) → eqb (b .name) n ≡ t → (f : Bool) → (more : List ℕ) × (names (spot n need bs .blocks) ≡ names bs ++ more)
-        → (more : List ℕ)
-        × (names (cond (t && f) (record { before = 0; start = b .len; blocks = record { name = n; len = b .len + need } ∷ bs }) (past b (spot n need bs)) .blocks) ≡ names (b ∷ bs) ++ more)
-    go true e true h = ([], ap (λ (k : ℕ). k ∷ names bs) (sym (eqb-true (b .name) n e)) ∙ sym (append-nil (names (b ∷ bs))))
-    go true e false (more, h) = (more, ap (b .name ∷_) h)
-    go false e f (more, h) = (more, ap (b .name ∷_) h)
-
--- what stands once stands further on
-further-same : (c : Core) → Further c c
-further-same c = record { moreItems = []; items = sym (append-nil (c .items)); moreBlocks = []; blocks = sym (append-nil (names (c .blocks))) }
-
-further-then : (a b c : Core) → Further a b → Further b c → Further a c
-further-then a b c f g =
-    record {
-      moreItems = f .moreItems ++ g .moreItems;
-      items = g .items ∙ ap (λ l. l ++ g .moreItems) (f .items) ∙ append-assoc (a .items) (f .moreItems) (g .moreItems);
-      moreBlocks = f .moreBlocks ++ g .moreBlocks;
-      blocks = g .blocks ∙ ap (λ l. l ++ g .moreBlocks) (f .blocks) ∙ append-assoc (names (a .blocks)) (f .moreBlocks) (g .moreBlocks);
-    }
-
-further-file : (bs : Bytes) (n : ℕ) (c : Core) → Further c (file bs (pointerAt (spot n (length bs) (c .blocks))) c (spot n (length bs) (c .blocks)))
-unfolding file
-further-file bs n c =
-    let (more, e) = spot-names n (length bs) (c .blocks) in
-    record { moreItems = _ ∷ []; items = refl; moreBlocks = more; blocks = e }
-
 -- the claim that what stood in c stands
-abbrev standing : Core → Claim
+abbrev pub standing : Core → Claim
 standing c = onCore Any (Further c)
 
 stay-item : (a : Core) (n : ℕ) (bs : Bytes) → Keeps (standing a) (addItem n bs)
@@ -64,7 +31,7 @@ unfolding addItem
 stay-item a n bs =
     c-core Any (Further a) (addItemC n bs) 10 (λ c q. addItemC-ok Any (Further a) n bs c (λ x y. further-then a c _ q (further-file bs n c)))
 
-stay-prims : (E : Env) (a : Core) → Prims E (standing a)
+pub stay-prims : (E : Env) (a : Core) → Prims E (standing a)
 unfolding useStructC useEnumC
 stay-prims E a =
     record {
@@ -72,8 +39,8 @@ stay-prims E a =
       refusable = λ n s x y q. tt;
       remark-keeps = c-remark Any (Further a);
       pay-keeps = c-pay Any (Further a) E;
-      struct-keeps = λ d u. c-useStruct Any (Further a) (d .name) (λ c q. further-then a c _ q (record { moreItems = []; items = sym (append-nil (c .items)); moreBlocks = []; blocks = sym (append-nil (names (c .blocks))) }));
-      enum-keeps = λ n e. c-useEnum Any (Further a) n (λ c q. further-then a c _ q (record { moreItems = []; items = sym (append-nil (c .items)); moreBlocks = []; blocks = sym (append-nil (names (c .blocks))) }));
+      struct-keeps = λ d u. c-useStruct Any (Further a) (d .name) (λ c q. record { moreItems = q .moreItems; items = q .items; moreBlocks = q .moreBlocks; blocks = q .blocks });
+      enum-keeps = λ n e. c-useEnum Any (Further a) n (λ c q. record { moreItems = q .moreItems; items = q .items; moreBlocks = q .moreBlocks; blocks = q .blocks });
       add-keeps = λ n bs u. stay-item a n bs;
       found = λ n d e. (tt, tt);
       named = λ d u. tt;
@@ -86,7 +53,7 @@ unfolding stay-prims
 any-start E a d = tt
 
 -- what keeps the claim, whatever stood, only adds
-only-adds : {A : Type 0} (m : M A) → ((a : Core) → Keeps (standing a) m) → OnlyAdds m
+pub only-adds : {A : Type 0} (m : M A) → ((a : Core) → Keeps (standing a) m) → OnlyAdds m
 unfolding Keeps
 only-adds {A = A} m h s = go (m s) (h (s .core) s (further-same (s .core)))
   where
@@ -114,15 +81,23 @@ module _ (E : Env) where
   unfolding structElement
   stay-element a fuel left d e i r =
       k-bind (standing a) _ _ (k-if (standing a) _ _ _ (k-ret (standing a) tt) (k-says E (standing a) (stay-prims E a) d e 9 0))
-      (λ u. k-bind (standing a) _ _ (stay-write a fuel left i _) (λ bs. k-ret (standing a) (some bs)))
+      (λ u. k-bind (standing a) _ _ (stay-write a fuel left i _) (λ bs. k-ret (standing a) _))
 
   stay-pair : (a : Core) (fuel left : ℕ) (i : StructDef) (p : ℕ × ℕ) → Keeps (standing a) (pairElement E (write E fuel left) i p)
   unfolding pairElement
-  stay-pair a fuel left i p = k-bind (standing a) _ _ (stay-write a fuel left i _) (λ bs. k-ret (standing a) (some bs))
+  stay-pair a fuel left i p = k-bind (standing a) _ _ (stay-write a fuel left i _) (λ bs. k-ret (standing a) _)
 
   -- the elements of a run one after the other
   each : {X : Type 0} (f : X → M (Option Bytes)) (xs : List X) → ((x : X) → OnlyAdds (f x)) → OnlyAdds (elements f xs)
   each f xs h = only-adds _ (λ a. k-elements E (standing a) (stay-prims E a) f xs (λ x. kept (f x) (h x) a))
+
+  -- an array's run, a map's pairs
+  pub run-adds : (fuel left : ℕ) (d : StructDef) (e x : Member) (k : Kinds.Kind) (rs : List ℕ) → OnlyAdds (elementRun E (write E fuel left) d e x k rs)
+  run-adds fuel left d e x k rs =
+      only-adds _ (λ a. r-keeps (standing a) _ (k-elementRun E (standing a) (stay-prims E a) (write E fuel left) (stay-inner a fuel left) d e x k rs))
+
+  pub pairs-add : (fuel left n : ℕ) (i : StructDef) (ps : List (ℕ × ℕ)) → OnlyAdds (run E (i .size) n (pairElement E (write E fuel left) i) ps)
+  pairs-add fuel left n i ps = only-adds _ (λ a. r-keeps (standing a) _ (k-run E (standing a) (stay-prims E a) (i .size) n _ ps tt (λ p. stay-pair a fuel left i p)))
 
   pub laid-stays : LaidStays E
   laid-stays =

@@ -9,16 +9,16 @@ use lib.Dec.{eqb, leb}
 use lib.ListN.{length, take, drop}
 use Rattle.numbers.specs.Words.{Bytes, Octets, words, over}
 use Rattle.numbers.specs.Result.{ok, Every}
-use Rattle.value.specs.Rows.{Value, Map, Null, row, childrenOf}
+use Rattle.value.specs.Rows.{Value, Map, Null, row, fieldsOf, childrenOf}
 use Rattle.schema.specs.Defs.{Schema, Lookup, StructDef, Member, structName, enumName, winning}
 use Rattle.schema.specs.Psch.{schemaOf}
 use Rattle.pso.specs.Reader as R
 use Rattle.pso.specs.Blocks.{numbered}
 use Rattle.pso.specs.Answers.{dataAt}
-use Rattle.layout.specs.State.{Item, Block, Uses, State, Env, done, contains}
+use Rattle.layout.specs.State.{Item, Block, Uses, State, emptyState, Env, done, contains}
 use Rattle.layout.specs.Members.{rowOf}
 use Rattle.layout.specs.Runs.{Writer}
-use Rattle.layout.specs.Write.{pairsOf, mapMember}
+use Rattle.layout.specs.Write.{pairsOf, mapMember, root}
 use Rattle.layout.specs.Assemble.{itemsIn, dataOf, psinOf, usedOf}
 use Rattle.layout.specs.Slots.{Slots}
 use Rattle.layout.specs.Parts.{Sizes, Joined, LaidStays}
@@ -129,6 +129,10 @@ pub record Demand3 (T S : Bytes) (work out records : ℕ) (F : Bytes) : Type 0 w
   -- the definitions of S
   pub schema : Schema
   pub schemaGives : schemaOf S ≡ ok schema
+  -- the layout is this run: the root's definition is written with the root's values, from nothing
+  pub rootDef : StructDef
+  pub rootFound : winning schema .struct (row T 0 .a) ≡ some rootDef
+  pub ran : root (envOf T schema work) rootDef (fieldsOf T (row T 0)) emptyState ≡ done (laid .pointer) (laid .state)
   -- the reader accepts F
   pub read : R.Pso
   pub accepts : R.parsePso F ≡ ok read
@@ -147,7 +151,7 @@ pub record Demand3 (T S : Bytes) (work out records : ℕ) (F : Bytes) : Type 0 w
   pub slotsPoint : Slots (envOf T schema work)
   -- a structure has as many bytes as its definition says, so a slot that fits lies inside it
   pub structsSized : Sizes (envOf T schema work)
-  -- a structure's bytes are what its members' steps leave, a run's are its elements', so what is put in a slot is put into the item
+  -- a structure's bytes are what its members' steps leave, a run's are its elements', so an item's bytes come from these steps and from nothing else
   pub partsJoin : Joined (envOf T schema work)
   -- no step takes an item away or renames a block
   pub laidStays : LaidStays (envOf T schema work)

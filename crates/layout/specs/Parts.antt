@@ -2,19 +2,19 @@
 use Prim.Native.Nat.{ℕ, suc, _+_, _-_}
 use mathlib.Core.Path.{_≡_}
 use mathlib.Core.Bool.{true, false}
-use mathlib.Core.List.{List, _∷_, _++_, map}
+use mathlib.Core.List.{List, _∷_, _++_}
 use mathlib.Core.Option.{Option, some}
 use lib.Dec.{eqb, leb}
 use lib.ListN.{length, take}
 use Rattle.numbers.specs.Words.{Bytes, over}
 use Rattle.value.specs.Rows.{Value, Fields, row, fieldsOf, fieldNamed, childrenOf}
 use Rattle.schema.specs.Defs.{StructDef, Member}
-use Rattle.layout.specs.State.{Item, Block, Core, State, Env, Out, done, stop, M, addItem}
+use Rattle.layout.specs.State.{Core, State, Env, Out, done, stop, M, addItem}
 use Rattle.layout.specs.Kinds
 use Rattle.layout.specs.Members.{rowOf, high16, isPointerText, slotSize}
 use Rattle.layout.specs.Runs.{Writer, Run, run, slotBlock, pointerElement, structElement, textElement, elements, elementRun}
 use Rattle.layout.specs.Write.{ARRAYINFO, arrayInfo, byPointer, pairFields, isStructValue, isArrayValue, pairElement, member, members, write, root}
-use Rattle.layout.specs.Slots.{Turn, step}
+use Rattle.layout.specs.Slots.{Further, Turn, step}
 
 -- lengths
 
@@ -26,7 +26,7 @@ pub record Sizes (E : Env) : Type 0 where
 
 -- parts
 
--- the turn of member e came, its step went on to the members behind it, and they ended with the structure's bytes bs in the state u
+-- the turn of member e came, its step answered `next`, the members behind it went on from there and ended with the structure's bytes bs in the state u
 pub record Passes (E : Env) (w : Writer) (d : StructDef) (fs : Fields) (front : List Member) (e : Member) (behind : List Member) (bs : Bytes) (u : State) : Type 0 where
   pub buf : Bytes
   pub state : State
@@ -67,7 +67,7 @@ module _ (E : Env) (w : Writer) where
       → leb (e .offset + length (r .bytes)) (d .size) ≡ true
       → step E w d e v buf s ≡ done (over buf (e .offset) (r .bytes)) t
 
-  -- a run that is kept has the bytes of its elements: texts by pointer; structures by pointer; structures of the definition i
+  -- a run that is kept is its elements' bytes, in a block of the run's name. Which elements: texts by pointer; structures by pointer; structures of the definition i
   pub record RunParts : Type 0 where
     pub kept : (stride block : ℕ) (f : ℕ → M (Option Bytes)) (rs : List ℕ) (s : State) (r : Run) (u : State) → run E stride block f rs s ≡ done (some r) u
         → (r .block ≡ block) × ((t : State) × (elements f rs t ≡ done (some (r .bytes)) u))
@@ -84,7 +84,7 @@ module _ (E : Env) (w : Writer) where
         → (t : State) × (w i (fieldsOf (E .sheet) (row (E .sheet) r)) t ≡ done bs u)
     pub pair : (i : StructDef) (p : ℕ × ℕ) (s : State) (bs : Bytes) (u : State) → pairElement E w i p s ≡ done (some bs) u → w i (pairFields i p) s ≡ done bs u
 
--- "Members are written in definition order, name 0x100 (ARRAYINFO) skipped": a structure's bytes are what its members' steps leave, one after the other.
+-- "Members are written in definition order": a structure's bytes are what its members' steps leave, one after the other.
 -- A run's bytes, of rows or of pairs, are its elements' in order
 pub record Joined (E : Env) : Type 0 where
   pub structures : (fuel left : ℕ) (d : StructDef) (fs : Fields) (s : State) (bs : Bytes) (u : State) → write E (suc fuel) left d fs s ≡ done bs u
@@ -99,13 +99,6 @@ pub record Joined (E : Env) : Type 0 where
   pub runs : (fuel left : ℕ) → RunParts E (write E fuel left)
 
 -- what was laid stays
-
--- the items and the blocks that stood before come first afterwards: each item as it was, each block under its number and name
-pub record Further (c c′ : Core) : Type 0 where
-  pub moreItems : List Item
-  pub items : c′ .items ≡ c .items ++ moreItems
-  pub moreBlocks : List ℕ
-  pub blocks : map (λ b. b .name) (c′ .blocks) ≡ map (λ b. b .name) (c .blocks) ++ moreBlocks
 
 -- what stood before the step stands after it
 abbrev pub Stays : {A : Type 0} → Core → Out A → Type 0

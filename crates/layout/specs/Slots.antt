@@ -1,9 +1,10 @@
 -- Slots: where the layout puts a pointer. "Its pointer is the number formed when it is laid", and that number is what the four bytes of a slot say.
--- A step that lays an item and puts its pointer into bytes puts the pointer of just that item: a text's, a run's, a map's, a structure's; and nothing else is put there.
+-- A step that lays an item and puts its pointer into bytes puts the pointer of just that item: a text's, a run's, a map's, a structure's; and no other pointer
+-- is put there. These laws speak of the slot's four bytes; what structures and runs are put together from stands in Parts.
 use Prim.Native.Nat.{ℕ, suc, _+_}
 use mathlib.Core.Path.{_≡_}
 use mathlib.Core.Bool.{true, false, _||_}
-use mathlib.Core.List.{List, [], _∷_, _++_}
+use mathlib.Core.List.{List, [], _∷_, _++_, map}
 use mathlib.Core.Option.{Option, none, some}
 use mathlib.Core.Logic.{_⊎_}
 use lib.Dec.{eqb, leb}
@@ -20,6 +21,13 @@ use Rattle.layout.specs.Write.{arrayInfo, byPointer, pairsOf, isArrayVal
 
 -- the item just laid
 
+-- the items and the blocks that stood in c come first in c′: each item as it was, each block under its number and name
+pub record Further (c c′ : Core) : Type 0 where
+  pub moreItems : List Item
+  pub items : c′ .items ≡ c .items ++ moreItems
+  pub moreBlocks : List ℕ
+  pub blocks : map (λ b. b .name) (c′ .blocks) ≡ map (λ b. b .name) (c .blocks) ++ moreBlocks
+
 -- from c to c′ one item was laid, its bytes bs, in a block named n; its pointer is p
 pub record Lays (n : ℕ) (bs : Bytes) (p : ℕ) (c c′ : Core) : Type 0 where
   pub item : Item
@@ -31,8 +39,9 @@ pub record Lays (n : ℕ) (bs : Bytes) (p : ℕ) (c c′ : Core) : Type 0 where
   pub filed : nth (c′ .blocks) before ≡ some block
   pub named : block .name ≡ n
   pub pointer : item .pointer ≡ p
+  pub stays : Further c c′
 
--- if the step answers, it has laid bs in a block named n, and the four bytes at off of its answer say the item's pointer
+-- if the step answers, its last item is bs, laid in a block named n (c is what stood just before), and the four bytes at off of its answer say that item's pointer
 abbrev pub Points : ℕ → Bytes → ℕ → Core → Out Bytes → Type 0
 Points n bs off c (done buf s) = Lays n bs (readAt 4 buf off) c (s .core)
 Points n bs off c (stop k es) = Unit {0}
@@ -48,10 +57,11 @@ abbrev pub PointsRoot : ℕ → Bytes → Core → Out ℕ → Type 0
 PointsRoot n bs c (done p s) = Lays n bs p c (s .core)
 PointsRoot n bs c (stop k es) = Unit {0}
 
--- if the step answers, the structure's bytes are as they were, or an item was laid last and the four bytes at off say its pointer
-abbrev pub PutsOnly : Bytes → ℕ → Out Bytes → Type 0
-PutsOnly buf off (done b s) = (b ≡ buf) ⊎ ((n : ℕ) × (bs : Bytes) × (c : Core) × Lays n bs (readAt 4 b off) c (s .core))
-PutsOnly buf off (stop k es) = Unit {0}
+-- if the step answers, the structure's bytes are as they were, or an item was laid in it, as the last, and the four bytes at off say that item's pointer;
+-- a is what stood before the step
+abbrev pub PutsOnly : Core → Bytes → ℕ → Out Bytes → Type 0
+PutsOnly a buf off (done b s) = (b ≡ buf) ⊎ ((n : ℕ) × (bs : Bytes) × (c : Core) × Further a c × Lays n bs (readAt 4 b off) c (s .core))
+PutsOnly a buf off (stop k es) = Unit {0}
 
 -- members
 
@@ -68,7 +78,7 @@ module _ (E : Env) (w : Writer) (d : StructDef) (e : Member) (v : Value) (buf : 
   abbrev pub step : Out Bytes
   step = member E w d e (Kinds.kindOf (e .type)) v buf s
 
-  -- a text by pointer, subtypes 1, 2 and 3, whose slot fits, that is not empty: laid "with its closing zero byte"
+  -- a text by pointer, subtypes 1, 2 and 3, whose slot fits, that is not empty: laid in a block named 1, "with its closing zero byte"
   abbrev pub TextSlot : Type 0
   TextSlot =
       (t : Bytes) → Kinds.kindOf (e .type) ≡ Kinds.text → isPointerText (e .subtype) ≡ true → leb (e .offset + slotSize (e .subtype)) (d .size) ≡ true
@@ -91,7 +101,8 @@ module _ (E : Env) (w : Writer) (d : StructDef) (e : Member) (v : Value) (buf : 
       → run E (i .size) (referenceAt d (low16 (e .reference))) (pairElement E w i) (pairsOf (childrenOf (rowOf E v))) s ≡ done (some r) t
       → Points (r .block) (r .bytes) (e .offset + 8) (t .core) step
 
-  -- a structure by pointer, whose 8 bytes fit: the Struct is written by w as a structure of the definition i, with the bytes bs; t is the state after that
+  -- a structure by pointer, whose 8 bytes fit: the Struct is written by w as a structure of the definition i, of the row's own type where the schema has it, else
+  -- of the reference, with the bytes bs; t is the state after that
   abbrev pub StructSlot : Type 0
   StructSlot =
       (i : StructDef) (bs : Bytes) (t : State) → Kinds.kindOf (e .type) ≡ Kinds.structure → eqb (e .subtype) 0 ≡ false → leb (e .offset + 8) (d .size) ≡ true
@@ -100,17 +111,17 @@ module _ (E : Env) (w : Writer) (d : StructDef) (e : Member) (v : Value) (buf : 
       → Points (i .name) bs (e .offset) (t .core) step
 
   -- all four; and whatever the value is, no other pointer is put: an empty text, an array without items, a run that is dropped, a structure without
-  -- definition leave the structure's bytes as they were. "an empty supported map still holds 0x01000000"
+  -- definition leave the structure's bytes as they were. A supported map that fits has 0x01000000 in its first four bytes, with or without pairs
   pub record MemberSlot : Type 0 where
     pub text : TextSlot
     pub array : ArraySlot
     pub map : MapSlot
     pub structure : StructSlot
-    pub textOnly : Kinds.kindOf (e .type) ≡ Kinds.text → isPointerText (e .subtype) ≡ true → PutsOnly buf (e .offset) step
-    pub arrayOnly : (x : Member) → Kinds.kindOf (e .type) ≡ Kinds.array → arrayInfo d e ≡ some x → byPointer (e .subtype) (x .subtype) ≡ true → PutsOnly buf (e .offset) step
+    pub textOnly : Kinds.kindOf (e .type) ≡ Kinds.text → isPointerText (e .subtype) ≡ true → PutsOnly (s .core) buf (e .offset) step
+    pub arrayOnly : (x : Member) → Kinds.kindOf (e .type) ≡ Kinds.array → arrayInfo d e ≡ some x → byPointer (e .subtype) (x .subtype) ≡ true → PutsOnly (s .core) buf (e .offset) step
     pub mapOnly : Kinds.kindOf (e .type) ≡ Kinds.map
-        → PutsOnly buf (e .offset + 8) step ⊎ PutsOnly (over buf (e .offset) (words (0x01000000 ∷ []))) (e .offset + 8) step
-    pub structureOnly : Kinds.kindOf (e .type) ≡ Kinds.structure → eqb (e .subtype) 0 ≡ false → PutsOnly buf (e .offset) step
+        → PutsOnly (s .core) buf (e .offset + 8) step ⊎ PutsOnly (s .core) (over buf (e .offset) (words (0x01000000 ∷ []))) (e .offset + 8) step
+    pub structureOnly : Kinds.kindOf (e .type) ≡ Kinds.structure → eqb (e .subtype) 0 ≡ false → PutsOnly (s .core) buf (e .offset) step
 
 -- elements of a run
 

@@ -140,6 +140,9 @@ module _ (T S : Bytes) (work out records : ℕ) (F : Bytes) (d : D.Demand3 T S w
             (subst (λ (l : List R.Block). D.BlocksTile 16 l (length (d .read .data′))) places (d .blocksTile)));
         itemsFollow = λ k. found-is F (d .read) a k (λ (b : E.Block). D.ItemsTile 0 (itemsIn k (d .laid .state .core .items)) (b .length)) (λ b q. d .itemsTile k b q);
         itemsStand = every-map (D.Stands (d .read)) (StandsIn F) (stands F (d .read) a (d .dataFirst)) (d .laid .state .core .items) (d .itemsStand);
+        rootDef = d .rootDef;
+        rootFound = d .rootFound;
+        ran = d .ran;
         slotsPoint = d .slotsPoint;
         structsSized = d .structsSized;
         partsJoin = d .partsJoin;

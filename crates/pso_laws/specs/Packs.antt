@@ -7,11 +7,12 @@ use mathlib.Core.Option.{some}
 use lib.ListN.{length, take, drop}
 use Rattle.numbers.specs.Words.{Bytes, Octets}
 use Rattle.numbers.specs.Result.{ok, Every}
-use Rattle.value.specs.Rows.{row}
+use Rattle.value.specs.Rows.{row, fieldsOf}
 use Rattle.schema.specs.Defs.{StructDef, EnumDef, Schema, Lookup, winning}
 use Rattle.schema.specs.Psch.{schemaOf}
 use Rattle.pso.specs.Reader.{Pso, parsePso}
-use Rattle.layout.specs.State.{Item, Block, contains}
+use Rattle.layout.specs.State.{Item, Block, emptyState, done, contains}
+use Rattle.layout.specs.Write.{root}
 use Rattle.layout.specs.Assemble.{itemsIn}
 use Rattle.layout.specs.Slots.{Slots}
 use Rattle.layout.specs.Parts.{Sizes, Joined, LaidStays}
@@ -74,6 +75,10 @@ pub record Pack (T S : Bytes) (work out records : ℕ) (F : Bytes) : Type 0 wher
   -- S's definitions
   pub schema : Schema
   pub schemaGives : schemaOf S ≡ ok schema
+  -- the layout is this run: the root's definition is written with the root's values, from nothing
+  pub rootDef : StructDef
+  pub rootFound : winning schema .struct (row T 0 .a) ≡ some rootDef
+  pub ran : root (envOf T schema work) rootDef (fieldsOf T (row T 0)) emptyState ≡ done (laid .pointer) (laid .state)
   -- the reader accepts F
   pub accepts : readingOf F .code ≡ 0
   pub read : Pso
@@ -96,7 +101,7 @@ pub record Pack (T S : Bytes) (work out records : ℕ) (F : Bytes) : Type 0 wher
   pub slotsPoint : Slots (envOf T schema work)
   -- a structure has as many bytes as its definition says, so a slot that fits lies inside it
   pub structsSized : Sizes (envOf T schema work)
-  -- a structure's bytes are what its members' steps leave, a run's are its elements', so what is put in a slot is put into the item
+  -- a structure's bytes are what its members' steps leave, a run's are its elements', so an item's bytes come from these steps and from nothing else
   pub partsJoin : Joined (envOf T schema work)
   -- no step takes an item away or renames a block
   pub laidStays : LaidStays (envOf T schema work)
