@@ -155,11 +155,10 @@ fn lines(all: &[u8]) {
     line(b"flags_bits", all, 8);
 }
 
-// Published values of the one-at-a-time hash, of bytes as they are: the empty key; two of Wikipedia's "Jenkins hash function"; Adder of
-// ScriptHookVDotNet's `VehicleHash`.
+// Published values of the one-at-a-time hash, of bytes as they are: two of Wikipedia's "Jenkins hash function"; Adder of ScriptHookVDotNet's
+// `VehicleHash`.
 fn published() -> u64 {
-    one(rage_joaat(b"") == 0)
-        + one(rage_joaat(b"a") == 0xCA2E9442)
+    one(rage_joaat(b"a") == 0xCA2E9442)
         + one(rage_joaat(b"The quick brown fox jumps over the lazy dog") == 0x519E91F5)
         + one(rage_joaat(b"adder") == 0xB779A091)
 }
@@ -167,7 +166,7 @@ fn published() -> u64 {
 fn published_line() {
     io::write_all(STDOUT_FILENO, b"rage_joaat: ");
     io::print_decimal(STDOUT_FILENO, published());
-    io::write_all(STDOUT_FILENO, b" of 4 published values agree\n");
+    io::write_all(STDOUT_FILENO, b" of 3 published values agree\n");
 }
 
 fn read_all(space: &mut [u8]) -> usize {

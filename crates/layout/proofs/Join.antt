@@ -17,7 +17,7 @@ use Rattle.layout.specs.Kinds
 use Rattle.layout.specs.Members.{says, need}
 use Rattle.layout.specs.Runs.{Writer, Run, run, elements, structElement, structRun, textRun, elementRun}
 use Rattle.layout.specs.Write.{ARRAYINFO, pairFields, inlineMember, structMember, embeddedArray, arrayOf, arrayMember, pairElement, member, members, started, body, write}
-use Rattle.layout.specs.Slots.{Turn, step}
+use Rattle.layout.specs.Slots.{step}
 use Rattle.layout.specs.Parts.{Passes, Contains, Inline, Embedded, RunParts, Joined}
 use Rattle.layout.proofs.Puts.{not-fixed}
 

@@ -14,7 +14,7 @@ use Rattle.numbers.specs.Result.{Result, ok, refused, andThen, needed}
 use Rattle.value.specs.Rows.{row, fieldsOf}
 use Rattle.schema.specs.Defs.{Schema, Lookup, StructDef, winning, indexEntries}
 use Rattle.schema.specs.Psch.{schemaOf}
-use Rattle.layout.specs.State.{Env, Out, done, stop, Remark, thin, emptyState}
+use Rattle.layout.specs.State.{Out, done, stop, Remark, thin, emptyState}
 use Rattle.layout.specs.Write.{root}
 pub use Rattle.layout.specs.Build.{envOf}
 use Rattle.layout.specs.Build.{Laid, Built, sheetOk, workNeed, within, laidFrom, layoutWith, layoutOf, layout, packed, fitted, build}

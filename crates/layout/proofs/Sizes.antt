@@ -1,20 +1,20 @@
 -- A structure has as many bytes as its definition says, once it is written and at the turn of each of its members: `sizes`.
 -- Assumes nothing.
-use Prim.Native.Nat.{ℕ, zero, suc, _+_, _-_, _*_, _≤_}
+use Prim.Native.Nat.{ℕ, zero, suc, _+_, _-_, _≤_}
 use native.Mathlib.Omega.{arith}
-use mathlib.Core.Path.{_≡_, refl, sym, _∙_, ap, subst}
+use mathlib.Core.Path.{_≡_, refl, _∙_, subst}
 use mathlib.Core.Bool.{Bool, true, false, cond}
 use mathlib.Core.List.{List, [], _∷_, _++_}
 use mathlib.Core.Option.{Option, none, some}
-use lib.Dec.{eqb, leb}
+use lib.Dec.{eqb}
 use lib.ListN.{length, take, length-append, length-take, length-replicate}
 use borrow.Author.Tests.{leb-true}
-use Rattle.numbers.specs.Words.{Bytes, bytesOf, words, over, zeros, isEmpty}
+use Rattle.numbers.specs.Words.{Bytes, bytesOf, words, over, zeros}
 use Rattle.numbers.proofs.Bytes.{length-bytes, length-words}
 use Rattle.numbers.proofs.Laws.{length-over}
 use Rattle.value.specs.Rows.{Value, Row, Fields, fieldNamed}
-use Rattle.coerce.specs.Numbers.{Fit, fits, unfit, floatText, mapFit, intOf, floatOf, vecOf, strOf}
-use Rattle.names.specs.Names.{Entries, hashOf}
+use Rattle.coerce.specs.Numbers.{Fit, fits, unfit, floatText, mapFit, intOf, floatOf, vecOf}
+use Rattle.names.specs.Names.{Entries}
 use Rattle.schema.specs.Defs.{StructDef, Member}
 use Rattle.layout.specs.State.{State, Env, Out, done, stop, M, after, bind, ret, fail, ifM, optM, fitM}
 use Rattle.layout.specs.Kinds
@@ -24,7 +24,6 @@ use Rattle.layout.specs.Members.{high16, slotSize, enumSize, putPointer,
 use Rattle.layout.specs.Runs.{Writer, Run}
 use Rattle.layout.specs.Write
 use Rattle.layout.specs.Write.{write, members}
-use Rattle.layout.specs.Slots.{Turn}
 use Rattle.layout.specs.Parts.{Sizes}
 
 -- what an action answers: rules for a claim on answers, one for each way to put actions together

@@ -1,17 +1,13 @@
 -- What was laid stays: items are only added, blocks keep their numbers and names: `laid-stays`.
 -- Assumes nothing.
-use Prim.Native.Nat.{ℕ, _+_}
-use mathlib.Core.Path.{_≡_, refl, sym, _∙_, ap}
-use mathlib.Core.Bool.{Bool, true, false, cond, _&&_}
-use mathlib.Core.List.{List, [], _∷_, _++_, map, append-nil, append-assoc}
-use mathlib.Core.Option.{Option, none, some}
-use lib.Dec.{leb, eqb}
-use lib.ListN.{length}
-use borrow.Author.Tests.{eqb-true}
+use Prim.Native.Nat.{ℕ}
+use mathlib.Core.Path.{_≡_}
+use mathlib.Core.List.{List}
+use mathlib.Core.Option.{Option, some}
 use Rattle.numbers.specs.Words.{Bytes}
 use Rattle.value.specs.Rows.{Fields}
 use Rattle.schema.specs.Defs.{StructDef, Member}
-use Rattle.layout.specs.State.{Item, Block, Core, State, Env, Out, done, stop, M, Spot, spot, past, pointerAt, maxBlock, file, useStructC, useEnumC, addItem, addItemC}
+use Rattle.layout.specs.State.{Core, Env, Out, done, stop, M, useStructC, useEnumC, addItem, addItemC}
 use Rattle.layout.specs.Kinds
 use Rattle.layout.specs.Runs.{run, structElement, elements, elementRun}
 use Rattle.layout.specs.Write.{pairElement, write, root}

@@ -11,6 +11,7 @@ use lib.ListN.{length}
 use borrow.Author.Tests.{eqb-true, eqb-false, leb-true}
 use Rattle.numbers.specs.Words.{Bytes}
 use Rattle.numbers.specs.Result.{Every}
+use Rattle.numbers.proofs.Bytes.{every-append}
 use Rattle.value.specs.Rows.{Fields}
 use Rattle.schema.specs.Defs.{StructDef}
 use Rattle.layout.specs.State.{Item, Block, Core, State, emptyState, Env, done, Spot, spot, past, pointerAt, file, maxBlock, useStructC, useEnumC}
@@ -83,10 +84,6 @@ every-mid Q (y ∷ a) x b h = every-mid Q a x b (h .1)
 
 -- one more item
 
-every-snoc : {A : Type 0} (Q : A → Type 0) (a : List A) (x : A) → Every Q a → Q x → Every Q (a ++ (x ∷ []))
-every-snoc Q [] x h q = (q, tt)
-every-snoc Q (y ∷ a) x h q = (h .0, every-snoc Q a x (h .1) q)
-
 all-snoc : (n m : ℕ) (is : List Item) (i : Item) → n ≤ m → AllIn n is → 1 ≤ i .block → i .block ≤ m → i .block ≤ 4095 → i .start ≤ 0xFFFFF
     → AllIn m (is ++ (i ∷ []))
 all-snoc n m [] i h a o b c d = (o, b, c, d, tt)
@@ -95,7 +92,7 @@ all-snoc n m (j ∷ is) i h a o b c d = (a .0, omega (arith, a .1), a .2, a .3, 
 tiled-file : (bs : Bytes) (c : Core) (p : Spot) → Good (length bs) (c .blocks) p → suc (p .before) ≤ 4095 → p .start ≤ 0xFFFFF → Tiled c → Tiled (file bs (pointerAt p) c p)
 unfolding file
 tiled-file bs c p g hb hs t =
-    record { tiles = tl; within = all-snoc (length (c .blocks)) (length (p .blocks)) (c .items) i (g .more) (t .within) (omega arith) (omega (arith, g .inside)) hb hs; formed = every-snoc Formed (c .items) i (t .formed) refl }
+    record { tiles = tl; within = all-snoc (length (c .blocks)) (length (p .blocks)) (c .items) i (g .more) (t .within) (omega arith) (omega (arith, g .inside)) hb hs; formed = every-append Formed (c .items) (i ∷ []) (t .formed) (refl, tt) }
   where
     i : Item
     i = record { pointer = pointerAt p; block = suc (p .before); start = p .start; bytes = bs }

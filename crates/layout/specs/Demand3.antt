@@ -151,7 +151,8 @@ pub record Demand3 (T S : Bytes) (work out records : ℕ) (F : Bytes) : Type 0 w
   pub slotsPoint : Slots (envOf T schema work)
   -- a structure has as many bytes as its definition says, so a slot that fits lies inside it
   pub structsSized : Sizes (envOf T schema work)
-  -- a structure's bytes are what its members' steps leave, a run's are its elements', so an item's bytes come from these steps and from nothing else
+  -- a structure's bytes are what its members' steps leave; those of a run of texts by pointer, pointers, structures or pairs are its elements': so the pointers
+  -- in an item's bytes come from these steps
   pub partsJoin : Joined (envOf T schema work)
   -- no step takes an item away or renames a block
   pub laidStays : LaidStays (envOf T schema work)

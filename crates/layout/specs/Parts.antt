@@ -84,8 +84,8 @@ module _ (E : Env) (w : Writer) where
         → (t : State) × (w i (fieldsOf (E .sheet) (row (E .sheet) r)) t ≡ done bs u)
     pub pair : (i : StructDef) (p : ℕ × ℕ) (s : State) (bs : Bytes) (u : State) → pairElement E w i p s ≡ done (some bs) u → w i (pairFields i p) s ≡ done bs u
 
--- "Members are written in definition order": a structure's bytes are what its members' steps leave, one after the other.
--- A run's bytes, of rows or of pairs, are its elements' in order
+-- "Members are written in definition order": a structure's bytes are what its members' steps leave, one after the other, from zeros on.
+-- A run's bytes, of texts by pointer, of pointers, of structures or of pairs, are its elements' in order
 pub record Joined (E : Env) : Type 0 where
   pub structures : (fuel left : ℕ) (d : StructDef) (fs : Fields) (s : State) (bs : Bytes) (u : State) → write E (suc fuel) left d fs s ≡ done bs u
       → (front : List Member) (e : Member) (behind : List Member) → d .members ≡ front ++ (e ∷ behind) → eqb (e .name) ARRAYINFO ≡ false

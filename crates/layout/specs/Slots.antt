@@ -13,7 +13,7 @@ use Rattle.numbers.specs.Result.{nth, orValue}
 use Rattle.value.specs.Rows.{Value, Fields, row, fieldsOf, fieldNamed, childrenOf, Struct, Map, Null}
 use Rattle.coerce.specs.Numbers.{strOf}
 use Rattle.schema.specs.Defs.{StructDef, Member}
-use Rattle.layout.specs.State.{Item, Block, Core, State, Env, Out, done, stop, M, withRemark}
+use Rattle.layout.specs.State.{Item, Block, Core, State, Env, Out, done, stop, withRemark}
 use Rattle.layout.specs.Kinds
 use Rattle.layout.specs.Members.{rowOf, referenceAt, low16, isPointerText, slotSize}
 use Rattle.layout.specs.Runs.{Writer, Run, run, ownType, pointerElement, textElement, elementRun}
@@ -110,8 +110,8 @@ module _ (E : Env) (w : Writer) (d : StructDef) (e : Member) (v : Value) (buf : 
       → w i (fieldsOf (E .sheet) (rowOf E v)) s ≡ done bs t
       → Points (i .name) bs (e .offset) (t .core) step
 
-  -- all four; and whatever the value is, no other pointer is put: an empty text, an array without items, a run that is dropped, a structure without
-  -- definition leave the structure's bytes as they were. A supported map that fits has 0x01000000 in its first four bytes, with or without pairs
+  -- all four; and whatever the value is, no other pointer is put: the structure's bytes are as they were (a map's 0x01000000 in its first four bytes aside),
+  -- or the step laid an item, as its last, and the slot says that item's pointer. So where nothing is laid the bytes stay
   pub record MemberSlot : Type 0 where
     pub text : TextSlot
     pub array : ArraySlot
