@@ -34,7 +34,7 @@ read t = reading (cond (parsesFloat (trimmed t)) 1 0) (intText (trimmed t)) (has
 /// A text as a whole number.
 fn whole(t: &[u8]) -> Fit<u64> {
     let row = Row { kind: STR, name: 0, a: 0, b: t.len() as u32, c: 0, d: 0 };
-    Sheet { rows: Vec::new(), texts: t }.int_of(&row)
+    Sheet::of_text(t).int_of(&row)
 }
 
 fn reading(t: &[u8]) -> String {

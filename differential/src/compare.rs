@@ -1,6 +1,7 @@
 //! One case: model against reference, subject against model, demand 3.
 use crate::bytes::{hex, push_u32, u32_at};
 use crate::gen::Case;
+use crate::model::buffer::Leads;
 use crate::model::reader::{self, Reading};
 use crate::model::schema::{next_section, Definitions, PMAP, PSCH, PSIN};
 use crate::model::sheet::{Sheet, STR};
@@ -167,9 +168,9 @@ pub fn demand3(case: &Case, pack: &Pack, subject: &mut Option<Box<dyn Subject>>,
     }
     let mut ends = vec![0u64; pack.blocks.len()];
     for item in &pack.items {
-        let k = item.block - 1;
+        let k = item.block as usize - 1;
         let at = read.blocks[k].place as usize + item.start as usize;
-        if item.start != ends[k] || pack.file[at..at + item.bytes.len()] != item.bytes[..] {
+        if item.start as u64 != ends[k] || pack.file[at..at + item.bytes.len()] != item.bytes[..] {
             return fail("items don't tile their block");
         }
         ends[k] += item.bytes.len() as u64;
@@ -177,7 +178,8 @@ pub fn demand3(case: &Case, pack: &Pack, subject: &mut Option<Box<dyn Subject>>,
     if ends.iter().zip(&pack.blocks).any(|(e, b)| *e != b.length) {
         return fail("the last item doesn't end its block");
     }
-    let root = pack.items.last().map(|i| i.block as u32);
+    slots(pack, stats)?;
+    let root = pack.items.last().map(|i| i.block);
     if root != Some(read.root) {
         return fail("the root's block");
     }
@@ -187,6 +189,24 @@ pub fn demand3(case: &Case, pack: &Pack, subject: &mut Option<Box<dyn Subject>>,
         return fail("the definitions are not the used ones");
     }
     rebuild(case, pack, subject, stats)
+}
+
+/// Each item but the root is laid for one slot at most, of an item that is laid later. Members that share bytes may
+/// put something else over a pointer; how many stay is counted.
+fn slots(pack: &Pack, stats: &mut Stats) -> Result<(), String> {
+    let mut met = vec![false; pack.items.len()];
+    for (k, item) in pack.items.iter().enumerate() {
+        for s in &item.slots {
+            let Leads::Item(target) = s.leads else { continue };
+            let target = target as usize;
+            if target >= k || std::mem::replace(&mut met[target], true) {
+                return Err("an item has two slots, or one that is laid before it".into());
+            }
+            stats.slots += 1;
+            stats.pointing += u64::from(u32_at(&item.bytes, s.at as usize) == pack.items[target].pointer);
+        }
+    }
+    Ok(())
 }
 
 /// Built from its own schema, with no more work and output than the first building needs.

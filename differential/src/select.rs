@@ -63,7 +63,7 @@ pub fn things(case: &Case, generous: &Outcome) -> (Outcome, Vec<u32>) {
         out.extend(marks.iter().enumerate().filter(|(_, m)| **m).map(|(k, _)| EXACT + k as u32));
     }
     if let (true, Ok(schema)) = (limited.code() == 0, Schema::read(&case.schema)) {
-        for m in schema.all.structures.iter().flat_map(|s| &s.members) {
+        for m in schema.all.structures.iter().flat_map(|s| s.members.iter()) {
             out.push(TYPES + m.ty as u32 * 16 + m.subtype.min(15) as u32);
         }
     }

@@ -151,8 +151,8 @@ fn smaller_trees(t: &Tree) -> Vec<Tree> {
 
 /// A schema file with nothing but its definitions.
 fn plain(d: &Definitions) -> Plan {
-    let structures = d.structures.iter().map(|s| (s.name, Body::Structure(s.unknown, s.size, 0, s.members.clone())));
-    let enums = d.enums.iter().map(|e| (e.name, Body::Enum(e.entries.clone())));
+    let structures = d.structures.iter().map(|s| (s.name, Body::Structure(s.unknown, s.size, 0, s.members.to_vec())));
+    let enums = d.enums.iter().map(|e| (e.name, Body::Enum(e.entries.to_vec())));
     Plan::of(structures.chain(enums).collect())
 }
 

@@ -22,6 +22,8 @@ pub struct Stats {
     pub compared: u64,
     pub tested: u64,
     pub demand3: u64,
+    pub slots: u64,
+    pub pointing: u64,
     pub files: [u64; 19],
     pub files_tested: u64,
     pub texts: u64,
@@ -46,6 +48,8 @@ impl Stats {
             compared: 0,
             tested: 0,
             demand3: 0,
+            slots: 0,
+            pointing: 0,
             files: [0; 19],
             files_tested: 0,
             texts: 0,
@@ -90,6 +94,7 @@ impl Stats {
         println!("model and reference   {} compared", self.compared);
         println!("library               {} compared", self.tested);
         println!("read, tiled, rebuilt  {}", self.demand3);
+        println!("pointers put          {}, of which {} stand in the pack", self.slots, self.pointing);
         println!("float texts           {} held against the parse of std", self.texts);
         let remarks: Vec<String> = (1..14).map(|k| format!("{k}: {}", self.remarks[k])).collect();
         println!("remarks by kind       {}", remarks.join(", "));

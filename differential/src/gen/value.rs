@@ -221,7 +221,7 @@ impl Values<'_> {
     pub fn fields(&mut self, def: &Structure, levels: usize) -> Vec<(u32, Tree)> {
         let (missing, wrong) = (self.habit.missing, self.habit.wrong);
         let mut out: Vec<(u32, Tree)> = Vec::new();
-        for m in &def.members {
+        for m in def.members.iter() {
             let unwanted = m.name == ARRAYINFO || out.iter().any(|(n, _)| *n == m.name);
             if (unwanted && !self.rng.chance(1, 20)) || self.chance(missing) || !self.take(1) {
                 continue;
@@ -308,7 +308,7 @@ impl Values<'_> {
             0x0C => if self.rng.chance(1, 8) { NULL_LEAF } else { self.structure(e.reference, levels, false) },
             0x0D | 0x0F | 0x10 => self.any(1),
             _ => {
-                let dummy = Structure { name: 0, unknown: 0, size: 0, members: Vec::new() };
+                let dummy = Structure { name: 0, unknown: 0, size: 0, members: [].into() };
                 self.value(&dummy, e, levels)
             }
         }

@@ -31,7 +31,7 @@ fn data_section(state: &State) -> Vec<u8> {
     out[..4].copy_from_slice(&PSIN.to_be_bytes());
     out[4..8].copy_from_slice(&(end as u32).to_be_bytes());
     for item in &state.items {
-        let at = (places[item.block - 1] + item.start) as usize;
+        let at = places[item.block as usize - 1] as usize + item.start as usize;
         out[at..at + item.bytes.len()].copy_from_slice(&item.bytes);
     }
     out
@@ -63,7 +63,7 @@ fn schema_section(schema: &Schema, state: &State, out: &mut Vec<u8>) {
         push_u16(&mut body, s.members.len() as u16);
         push_u32(&mut body, s.size);
         push_u32(&mut body, 0);
-        for m in &s.members {
+        for m in s.members.iter() {
             push_u32(&mut body, m.name);
             body.extend_from_slice(&[m.ty, m.subtype]);
             push_u16(&mut body, m.offset);
@@ -74,7 +74,7 @@ fn schema_section(schema: &Schema, state: &State, out: &mut Vec<u8>) {
         let e = schema.enumeration(*name).unwrap();
         index.push((*name, body.len()));
         push_u32(&mut body, 1 << 24 | e.entries.len() as u32);
-        for (n, v) in &e.entries {
+        for (n, v) in e.entries.iter() {
             push_u32(&mut body, *n);
             push_u32(&mut body, *v);
         }

@@ -1,14 +1,15 @@
 //! Members that lead to further structures: structures, arrays, maps.
+use super::buffer::{Buffer, Laid};
 use super::schema::Member;
-use super::sheet::{Row, ARRAY, MAP, NULL, STR, STRUCT};
+use super::sheet::{ARRAY, MAP, NULL, STR, STRUCT};
 use super::text;
+use super::trace::{From, Note};
 use super::write::{At, Writer};
 use crate::branch::{Case, Place, Way};
-use crate::bytes::{put_u16, put_u32};
 use std::ops::Range;
 
 impl<'a> Writer<'a> {
-    pub(super) fn structure_member(&mut self, at: At<'a>, buf: &mut [u8]) -> Result<(), u32> {
+    pub(super) fn structure_member(&mut self, at: At<'a>, buf: &mut Buffer) -> Result<(), u32> {
         let (m, off) = (at.member, at.member.offset as usize);
         let case = if m.subtype == 0 { Case::Inline } else { Case::Pointed };
         let row = self.seen(at, case, Place::Struct);
@@ -22,37 +23,50 @@ impl<'a> Writer<'a> {
         if m.subtype == 0 {
             let Some(inner) = self.schema.structure(m.reference) else {
                 self.state.hits.hit(case, Way::NoDef);
+                self.state.trace.lacks(m.reference, at.from());
                 return self.remark(at, 4, m.reference);
             };
             if !self.fits(at, case, inner.size as usize)? {
                 return Ok(());
             }
-            let bytes = self.structure(inner, &self.fields_of(&row), at.depth + 1)?;
+            let made = self.structure(inner, &self.fields_of(at.value), at.from(), at.depth + 1)?;
             self.state.hits.hit(case, Way::Written);
-            buf[off..off + bytes.len()].copy_from_slice(&bytes);
+            buf.place(off, &made);
             return Ok(());
         }
-        if !self.fits(at, case, 8)? || row.kind != STRUCT {
+        if !self.fits(at, case, 8)? {
             return Ok(());
         }
-        if let Some(pointer) = self.pointed(at, case, m.reference, &row)? {
-            put_u32(buf, off, pointer);
-        }
+        let laid = if row.kind == STRUCT { self.pointed(at, case, m.reference, at.from())? } else { None };
+        self.put(buf, off, laid, at.from());
         Ok(())
     }
 
+    /// A pointer, or nothing.
+    pub fn put(&mut self, buf: &mut Buffer, off: usize, laid: Option<Laid>, from: From) {
+        match laid {
+            Some(laid) => buf.put_pointer(off, laid),
+            None => buf.put_nothing(off, self.state.nothing(from)),
+        }
+    }
+
     /// A structure by pointer: the row's own type where the schema has it, else the reference; or remark 4.
-    pub fn pointed(&mut self, at: At<'a>, case: Case, reference: u32, row: &Row) -> Result<Option<u32>, u32> {
-        let own = self.schema.structure(row.a).is_some();
-        let name = if own { row.a } else { reference };
-        let Some(def) = self.schema.structure(name) else {
+    pub fn pointed(&mut self, at: At<'a>, case: Case, reference: u32, from: From) -> Result<Option<Laid>, u32> {
+        let own_type = self.row(from.row).a;
+        let own = self.schema.structure(own_type).is_some();
+        let name = if own { own_type } else { reference };
+        let found = self.schema.structure(name);
+        if !own && (own_type != 0 || found.is_none()) {
+            self.state.trace.lacks(if own_type != 0 { own_type } else { name }, from);
+        }
+        let Some(def) = found else {
             self.state.hits.hit(case, Way::NoDef);
-            self.remark(at, 4, name)?;
+            self.remark_at(at, from.row, 4, name)?;
             return Ok(None);
         };
         self.state.hits.hit(case, if own { Way::OwnType } else { Way::ByReference });
-        let bytes = self.structure(def, &self.fields_of(row), at.depth + 1)?;
-        self.state.lay(def.name, bytes).map(Some)
+        let made = self.structure(def, &self.fields_of(from.row), from, at.depth + 1)?;
+        self.state.lay(def.name, made, from).map(Some)
     }
 
     /// The element's descriptor: 16-bit index, else 12-bit.
@@ -69,7 +83,7 @@ impl<'a> Writer<'a> {
         members.get(narrow)
     }
 
-    pub(super) fn array(&mut self, at: At<'a>, buf: &mut [u8]) -> Result<(), u32> {
+    pub(super) fn array(&mut self, at: At<'a>, buf: &mut Buffer) -> Result<(), u32> {
         let (m, off) = (at.member, at.member.offset as usize);
         let Some(element) = self.array_info(at) else {
             self.state.hits.hit(Case::Array, Way::Remark);
@@ -96,27 +110,28 @@ impl<'a> Writer<'a> {
         let n = items.len();
         if n == 0 {
             self.state.hits.hit(case, Way::Empty);
+            buf.put_nothing(off, self.state.nothing(at.from()));
             return Ok(());
         }
         let Some((block, run)) = self.element_run(at, element, items)? else {
             self.state.hits.hit(case, Way::Dropped);
+            buf.put_nothing(off, self.state.nothing(at.from()));
             return Ok(());
         };
         self.state.hits.hit(case, Way::Written);
-        let pointer = self.state.lay(block, run)?;
-        put_u32(buf, off, pointer);
-        put_u16(buf, off + 8, n as u16);
-        put_u16(buf, off + 10, n as u16);
+        let laid = self.state.lay(block, run, at.from())?;
+        buf.put_counted(off, laid, n);
         Ok(())
     }
 
     /// The run first, then whether it fits; items past the count are dropped before.
-    fn embedded(&mut self, at: At<'a>, element: &'a Member, items: Range<usize>, buf: &mut [u8]) -> Result<(), u32> {
+    fn embedded(&mut self, at: At<'a>, element: &'a Member, items: Range<usize>, buf: &mut Buffer) -> Result<(), u32> {
         let case = Case::ArrayEmbedded;
         let off = at.member.offset as usize;
         let kept = items.len().min((at.member.reference >> 16) as usize);
         if kept < items.len() {
             self.state.hits.hit(case, Way::Cut);
+            self.state.trace.note(Note::ItemsCut, at.from());
         }
         let Some((_, run)) = self.element_run(at, element, items.start..items.start + kept)? else {
             self.state.hits.hit(case, Way::Dropped);
@@ -126,11 +141,11 @@ impl<'a> Writer<'a> {
             return Ok(());
         }
         self.state.hits.hit(case, if run.is_empty() { Way::Empty } else { Way::Written });
-        buf[off..off + run.len()].copy_from_slice(&run);
+        buf.place(off, &run);
         Ok(())
     }
 
-    pub(super) fn map(&mut self, at: At<'a>, buf: &mut [u8]) -> Result<(), u32> {
+    pub(super) fn map(&mut self, at: At<'a>, buf: &mut Buffer) -> Result<(), u32> {
         let (m, off) = (at.member, at.member.offset as usize);
         if m.subtype != 1 {
             self.state.hits.hit(Case::MapOther, Way::Remark);
@@ -146,24 +161,25 @@ impl<'a> Writer<'a> {
         if at.value.is_some() && row.kind == NULL {
             self.state.hits.hit(Case::Map, Way::Null);
         }
-        put_u32(buf, off, 0x0100_0000);
+        buf.put(off, &0x0100_0000u32.to_be_bytes());
         let pairs = self.sheet.children(&row);
         if pairs.is_empty() {
             self.state.hits.hit(Case::Map, Way::Empty);
+            buf.put_nothing(off + 8, self.state.nothing(at.from()));
             return Ok(());
         }
         let name = self.reference_at(at, Case::Map, (m.reference & 0xFFFF) as usize);
         let Some(pair) = self.schema.structure(name) else {
             self.state.hits.hit(Case::Map, Way::NoDef);
+            self.state.trace.lacks(name, at.from());
+            buf.put_nothing(off + 8, self.state.nothing(at.from()));
             return self.remark(at, 7, name);
         };
         let n = pairs.len() / 2;
         let run = self.pair_run(at, pair, pairs)?;
         self.state.hits.hit(Case::Map, Way::Written);
-        let pointer = self.state.lay(name, run)?;
-        put_u32(buf, off + 8, pointer);
-        put_u16(buf, off + 16, n as u16);
-        put_u16(buf, off + 18, n as u16);
+        let laid = self.state.lay(name, run, at.from())?;
+        buf.put_counted(off + 8, laid, n);
         Ok(())
     }
 }

@@ -1,5 +1,7 @@
 //! Document 01, written a second time: the exact answer for every input.
 pub mod assemble;
+pub mod buffer;
+pub mod cells;
 pub mod coerce;
 pub mod compound;
 pub mod number;
@@ -9,12 +11,14 @@ pub mod schema;
 pub mod sheet;
 pub mod state;
 pub mod text;
+pub mod trace;
 pub mod write;
 
 use crate::branch::Hits;
 use schema::Schema;
 use sheet::Sheet;
 use state::{Block, Item, Remark, State};
+use trace::{From, Trace};
 use write::{Fields, Writer};
 
 pub const MAX_CHARGE: u64 = 4_194_304;
@@ -73,18 +77,11 @@ pub fn build(sheet: &[u8], schema: &[u8], limits: &Limits) -> Outcome {
         Err(n) => return Outcome::early(n, None),
     };
     let entries = schema.index_entries();
-    let root = sheet.rows[0];
-    let Some(def) = schema.structure(root.a) else { return Outcome::early(7, Some(entries)) };
-    let need = MIN_WORK + 8 * entries as u64;
-    if limits.work < need {
-        return Outcome::early(12, Some(entries));
-    }
-    let cap = MAX_CHARGE.min((limits.work - need) / 4);
-    let mut w = Writer { sheet: &sheet, schema: &schema, state: State::new(cap, limits.records) };
-    let laid = w.structure(def, &Fields::Rows(sheet.children(&root)), 1).and_then(|bytes| w.state.lay(def.name, bytes));
-    let state = w.state;
+    let Followed { state, answer } = match follow(&sheet, &schema, limits, &Pace::WHOLE) {
+        Ok(f) => f,
+        Err(n) => return Outcome::early(n, Some(entries)),
+    };
     let (charge, remarks) = (state.charge, state.remarks.len());
-    let answer = laid.and_then(|pointer| finish(&schema, &state, pointer, limits));
     let answer = answer.map(|file| Pack {
         file,
         remarks: state.remarks,
@@ -95,6 +92,40 @@ pub fn build(sheet: &[u8], schema: &[u8], limits: &Limits) -> Outcome {
         charge,
     });
     Outcome { answer, hits: state.hits, charge, remarks, index_entries: Some(entries) }
+}
+
+/// How a layout is followed: whether refusals 8, 10 and 11 are passed over, and after how many steps it is given up.
+pub struct Pace {
+    pub free: bool,
+    pub steps: u64,
+}
+
+impl Pace {
+    pub const WHOLE: Pace = Pace { free: false, steps: u64::MAX };
+}
+
+/// A layout that was followed to its end or its refusal, and the file.
+pub struct Followed {
+    pub state: State,
+    pub answer: Result<Vec<u8>, u32>,
+}
+
+/// The layout of a sheet with a schema, or 7 or 12.
+pub fn follow(sheet: &Sheet, schema: &Schema, limits: &Limits, pace: &Pace) -> Result<Followed, u32> {
+    let def = schema.structure(sheet.rows[0].a).ok_or(7u32)?;
+    let need = MIN_WORK + 8 * schema.index_entries() as u64;
+    let cap = MAX_CHARGE.min(limits.work.checked_sub(need).ok_or(12u32)? / 4);
+    let mut state = State::new(cap, limits.records, Trace::of(sheet));
+    (state.free, state.steps) = (pace.free, pace.steps);
+    let mut w = Writer { sheet, schema, state };
+    let made = w.structure(def, &Fields::Children(0), From::ROOT, 1);
+    let laid = made.and_then(|made| w.state.lay(def.name, made, From::ROOT));
+    let mut state = w.state;
+    if laid.is_ok() {
+        state.trace.close(sheet);
+    }
+    let answer = laid.and_then(|laid| finish(schema, &state, laid.pointer, limits));
+    Ok(Followed { state, answer })
 }
 
 /// 13: the file is longer than the output or than 16,777,216.

@@ -1,6 +1,8 @@
 //! The schema file: sections, definitions; refusals 4, 5 and 6.
 use crate::bytes::{u16_at, u32_at};
+use super::state::GAVE_UP;
 use std::collections::HashMap;
+use std::rc::Rc;
 
 pub const PSIN: u32 = 0x5053_494E;
 pub const PMAP: u32 = 0x504D_4150;
@@ -20,20 +22,35 @@ pub struct Structure {
     pub name: u32,
     pub unknown: u8,
     pub size: u32,
-    pub members: Vec<Member>,
+    pub members: Rc<[Member]>,
 }
 
 #[derive(Clone, Debug, PartialEq)]
 pub struct Enumeration {
     pub name: u32,
-    pub entries: Vec<(u32, u32)>,
+    pub entries: Rc<[(u32, u32)]>,
 }
 
 /// All definitions in index order, over all PSCH sections in file order.
-#[derive(Default, Debug, Clone)]
+#[derive(Debug, Clone)]
 pub struct Definitions {
     pub structures: Vec<Structure>,
     pub enums: Vec<Enumeration>,
+    /// How many members and entries may still be read; those of one place are read once.
+    left: usize,
+}
+
+impl Default for Definitions {
+    fn default() -> Definitions {
+        Definitions { structures: Vec::new(), enums: Vec::new(), left: usize::MAX }
+    }
+}
+
+/// Members and entries by their place in a section.
+#[derive(Default)]
+struct Places {
+    members: HashMap<usize, Rc<[Member]>>,
+    entries: HashMap<usize, Rc<[(u32, u32)]>>,
 }
 
 /// What follows the sections before: the next section with its place, the end, or refusal 4.
@@ -58,15 +75,21 @@ impl Definitions {
         if section.len() < 12 + 8 * count {
             return Err(5);
         }
+        let mut places = Places::default();
         for i in 0..count {
             let name = u32_at(section, 12 + 8 * i);
             let at = u32_at(section, 16 + 8 * i) as usize;
-            self.add_one(section, name, at)?;
+            self.add_one(section, name, at, &mut places)?;
         }
         Ok(())
     }
 
-    fn add_one(&mut self, section: &[u8], name: u32, at: usize) -> Result<(), u32> {
+    fn take(&mut self, n: usize) -> Result<(), u32> {
+        self.left = self.left.checked_sub(n).ok_or(GAVE_UP)?;
+        Ok(())
+    }
+
+    fn add_one(&mut self, section: &[u8], name: u32, at: usize, places: &mut Places) -> Result<(), u32> {
         let inside = |from: usize, n: usize| from + n <= section.len();
         if !inside(at, 4) {
             return Err(5);
@@ -77,7 +100,11 @@ impl Definitions {
                 if !inside(at, 8) || (n > 0 && !inside(at + 12, 12 * n)) {
                     return Err(5);
                 }
-                let members = (0..n).map(|k| member_at(section, at + 12 + 12 * k)).collect();
+                if !places.members.contains_key(&at) {
+                    self.take(n)?;
+                    places.members.insert(at, (0..n).map(|k| member_at(section, at + 12 + 12 * k)).collect());
+                }
+                let members = places.members[&at].clone();
                 self.structures.push(Structure { name, unknown: section[at + 1], size: u32_at(section, at + 4), members });
             }
             1 => {
@@ -85,8 +112,12 @@ impl Definitions {
                 if n > 0 && !inside(at + 4, 8 * n) {
                     return Err(5);
                 }
-                let entries = (0..n).map(|k| (u32_at(section, at + 4 + 8 * k), u32_at(section, at + 8 + 8 * k))).collect();
-                self.enums.push(Enumeration { name, entries });
+                if !places.entries.contains_key(&at) {
+                    self.take(n)?;
+                    let entry = |k: usize| (u32_at(section, at + 4 + 8 * k), u32_at(section, at + 8 + 8 * k));
+                    places.entries.insert(at, (0..n).map(entry).collect());
+                }
+                self.enums.push(Enumeration { name, entries: places.entries[&at].clone() });
             }
             _ => return Err(6),
         }
@@ -108,7 +139,12 @@ pub struct Schema {
 impl Schema {
     /// The schema of a file, or 4, 5, 6 as first met in file order.
     pub fn read(file: &[u8]) -> Result<Schema, u32> {
-        let mut all = Definitions::default();
+        Schema::read_most(file, usize::MAX)
+    }
+
+    /// The same, given up where more members and entries would be read.
+    pub fn read_most(file: &[u8], most: usize) -> Result<Schema, u32> {
+        let mut all = Definitions { left: most, ..Definitions::default() };
         let mut at = 0;
         while let Some((name, section)) = next_section(file, at)? {
             if name == PSCH {

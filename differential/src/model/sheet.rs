@@ -1,5 +1,6 @@
 //! The value sheet: rows, children, texts; refusals 1, 2 and 3.
 use crate::bytes::u32_at;
+use std::collections::HashMap;
 use std::ops::Range;
 
 pub const NULL: u8 = 0;
@@ -47,6 +48,10 @@ pub struct Row {
 pub struct Sheet<'a> {
     pub rows: Vec<Row>,
     pub texts: &'a [u8],
+    /// The first child of a name, by the Struct's row.
+    named: HashMap<(usize, u32), usize>,
+    /// How long it takes to read a row with all that is below it: a step for a row and for 16 bytes of text, times 16.
+    weights: Vec<u64>,
 }
 
 /// How many of a, b, c, d a kind uses.
@@ -91,10 +96,11 @@ impl Row {
 impl<'a> Sheet<'a> {
     /// The sheet, or refusal 1, 2 or 3: each is judged over the whole sheet.
     pub fn read(bytes: &'a [u8]) -> Result<Sheet<'a>, u32> {
-        let sheet = Sheet::rows_of(bytes).ok_or(1u32)?;
+        let mut sheet = Sheet::rows_of(bytes).ok_or(1u32)?;
         if !sheet.laid_out() {
             return Err(1);
         }
+        sheet.look_over();
         if sheet.texts.iter().any(|b| *b > 127) {
             return Err(2);
         }
@@ -102,6 +108,11 @@ impl<'a> Sheet<'a> {
             return Err(3);
         }
         Ok(sheet)
+    }
+
+    /// A text area alone, for rows that stand in no sheet.
+    pub fn of_text(texts: &'a [u8]) -> Sheet<'a> {
+        Sheet { rows: Vec::new(), texts, named: HashMap::new(), weights: Vec::new() }
     }
 
     fn rows_of(bytes: &'a [u8]) -> Option<Sheet<'a>> {
@@ -123,7 +134,7 @@ impl<'a> Sheet<'a> {
             }
             rows.push(Row { kind: r[0], name: u32_at(r, 4), a: u32_at(r, 8), b: u32_at(r, 12), c: u32_at(r, 16), d: u32_at(r, 20) });
         }
-        Some(Sheet { rows, texts })
+        Some(Sheet { rows, ..Sheet::of_text(texts) })
     }
 
     /// Every row is sound, each row but the first is the child of one earlier row, all texts are used.
@@ -158,6 +169,33 @@ impl<'a> Sheet<'a> {
             }
         }
         next_child == n && next_text == self.texts.len() as u64
+    }
+
+    /// Names and weights; children come behind their parents.
+    fn look_over(&mut self) {
+        self.weights = vec![16; self.rows.len()];
+        for (i, row) in self.rows.iter().enumerate().rev() {
+            let below: u64 = self.children(row).map(|c| self.weights[c]).sum();
+            self.weights[i] += below + if row.kind == STR { row.b as u64 } else { 0 };
+        }
+        let structs = self.rows.iter().enumerate().filter(|(_, r)| r.kind == STRUCT);
+        let mut named = HashMap::new();
+        for (i, row) in structs {
+            for c in self.children(row) {
+                named.entry((i, self.rows[c].name)).or_insert(c);
+            }
+        }
+        self.named = named;
+    }
+
+    /// The first child of a name of a Struct's row.
+    pub fn named(&self, row: usize, name: u32) -> Option<usize> {
+        self.named.get(&(row, name)).copied()
+    }
+
+    /// About how many steps it takes to read a value.
+    pub fn cost(&self, value: Option<usize>) -> u64 {
+        1 + value.filter(|r| self.rows[*r].kind != STRUCT).map_or(0, |r| self.weights[r] / 16)
     }
 
     pub fn text(&self, row: &Row) -> &'a [u8] {
