@@ -1,7 +1,8 @@
-//! Writes the sheets and schema files of the examples. It shows how a sheet is made: rows breadth first, texts behind.
+//! Writes the sheets, schema files and names of the examples. It shows how a sheet is made: rows breadth first, texts
+//! behind.
 //!
 //!     rustc --edition 2021 -o target/make examples/make.rs && target/make examples
-use std::{env, fs, io, path::Path};
+use std::{collections::BTreeSet, env, fs, io, path::Path, sync::Mutex};
 
 /// A value, by its kind.
 enum Value {
@@ -21,8 +22,12 @@ enum Value {
 }
 use Value::*;
 
+/// The names that were used.
+static NAMES: Mutex<BTreeSet<String>> = Mutex::new(BTreeSet::new());
+
 /// Jenkins one-at-a-time: the number that stands for a name.
 fn name(text: &str) -> u32 {
+    NAMES.lock().unwrap().insert(text.into());
     let mut h = 0u32;
     for b in text.bytes() {
         h = h.wrapping_add(b as u32);
@@ -234,5 +239,7 @@ fn main() -> io::Result<()> {
         fs::write(folder.join(format!("{scene}.sheet")), sheet)?;
         fs::write(folder.join(format!("{scene}.schema")), schema)?;
     }
-    Ok(())
+    // Only the hall's numbers are made from names.
+    let names: String = NAMES.lock().unwrap().iter().map(|n| format!("{n}\n")).collect();
+    fs::write(Path::new(&target).join("hall/hall.names"), names)
 }

@@ -1,36 +1,24 @@
 //! `accept`: a pack against the sheet of its scene, line by line.
 use crate::arguments::Accept;
-use crate::library::{self, LONGEST_PACK};
-use crate::pack::work_lengths;
-use crate::pointers::{Pack, Walk};
+use crate::library::LONGEST_PACK;
+use crate::names::Names;
+use crate::pointers::{follow, Pack};
 use crate::progress::Progress;
-use crate::read::accepted;
-use crate::schema_check::{against_scene, against_schema};
+use crate::rebuild::{past_refusal, rebuild, Missing, Rebuilt};
+use crate::schema_check::{carries, counted, lacks, Faults};
 use crate::sections::sections;
-use crate::words::{commas, count, refused};
-use crate::{files, places, print, Stop, DONE, FAILED};
-use std::fmt::Write;
+use crate::told::told;
+use crate::verdict::{Finding, List};
+use crate::view::accepted;
+use crate::words::{commas, count};
+use crate::{files, Stop};
 
-/// What a check found: a few words, or what is wrong and where.
-type Finding = Result<String, String>;
-
-/// The lines so far.
-struct List {
-    text: String,
-    checks: usize,
-    failed: usize,
-}
-
-impl List {
-    fn add(&mut self, check: &str, finding: Finding) {
-        self.checks += 1;
-        self.failed += usize::from(finding.is_err());
-        let (word, text) = match finding {
-            Ok(text) => ("pass", text),
-            Err(text) => ("FAIL", text),
-        };
-        let _ = writeln!(self.text, "{word}  {check}: {text}");
-    }
+/// A pack, its sheet and, where it is given, the schema file.
+struct Given<'a> {
+    pack: Pack<'a>,
+    sheet: &'a [u8],
+    schema: Option<&'a [u8]>,
+    names: &'a Names,
 }
 
 /// The three sections of a pack, in their order, from the first byte to the last.
@@ -40,19 +28,22 @@ fn end_to_end(file: &[u8]) -> Finding {
         let due = String::from_utf8_lossy(name);
         match found.get(k) {
             Some(s) if s.is(name) => {}
-            Some(s) => return Err(format!("section {} at byte {} is {}, {due} is due", k + 1, s.at, s.shown())),
-            None => return Err(format!("{due} is missing")),
+            Some(s) => {
+                return Finding::Fail(format!("section {} at byte {} is {}, {due} is due", k + 1, s.at, s.shown()))
+            }
+            None => return Finding::Fail(format!("{due} is missing")),
         }
     }
     if let Some(s) = found.get(3) {
-        return Err(format!("a fourth section, {}, at byte {}", s.shown(), s.at));
+        return Finding::Fail(format!("a fourth section, {}, at byte {}", s.shown(), s.at));
     }
     let end: usize = found.iter().map(|s| s.length).sum();
     if end != file.len() {
-        return Err(format!("{} behind the last section, at byte {end}", count((file.len() - end) as u64, "byte")));
+        let behind = count((file.len() - end) as u64, "byte");
+        return Finding::Fail(format!("{behind} behind the last section, at byte {end}"));
     }
     let lengths: Vec<String> = found.iter().map(|s| format!("{} {}", s.shown(), commas(s.length as u64))).collect();
-    Ok(format!("{} bytes", lengths.join(", ")))
+    Finding::Pass(format!("{} bytes", lengths.join(", ")))
 }
 
 /// Block 1 starts at byte 16, each further one where the one before ends, the last ends with the data.
@@ -61,48 +52,53 @@ fn block_list(pack: &Pack) -> Finding {
     let mut due = 16u64;
     for (k, b) in pack.blocks.iter().enumerate() {
         if b.place as u64 != due {
-            return Err(format!("block {} of name 0x{:X} is at {}, {due} is due", k + 1, b.name, b.place));
+            return Finding::Fail(format!("block {} of name 0x{:X} is at {}, {due} is due", k + 1, b.name, b.place));
         }
         due += b.length as u64;
     }
     if due != pack.reading.data_length as u64 {
-        return Err(format!("the last block ends at {due}, the data at {}", pack.reading.data_length));
+        return Finding::Fail(format!("the last block ends at {due}, the data at {}", pack.reading.data_length));
     }
     if root == 0 || root > blocks {
-        return Err(format!("the root is block {root}, there are {blocks}"));
+        return Finding::Fail(format!("the root is block {root}, there are {blocks}"));
     }
-    Ok(format!("{}, root in block {root}", count(blocks as u64, "block")))
+    Finding::Pass(format!("{}, root in block {root}", count(blocks as u64, "block")))
 }
 
-fn pointers(pack: &Pack) -> Finding {
+/// Each pointer against the rebuilt pack: the schema file's, else the pack's own. Where there is none, or definitions
+/// are lacking, against the names that packing files under.
+fn pointers(given: &Given, own: &Result<Rebuilt, Missing>, theirs: Option<&Result<Rebuilt, Missing>>) -> Finding {
     let mut progress = Progress::new();
-    if pack.file.len() > files::LONG {
+    if given.pack.file.len() > files::LONG {
         progress.show("following pointers");
     }
-    let walk = Walk::from_root(pack)?;
-    let (pointers, structures) = (count(walk.pointers, "pointer"), count(walk.structures, "structure"));
-    match walk.faults.split_first() {
-        None => Ok(format!("{pointers}, {structures}")),
-        Some((first, [])) => Err(first.clone()),
-        Some((first, more)) => Err(format!("{first}; and {} more", count(more.len() as u64, "faulty pointer"))),
-    }
+    let past = own.as_ref().err().and_then(|why| past_refusal(given.sheet, given.pack.file, why));
+    let (laid, exact) = match (theirs, own, &past) {
+        (Some(Ok(built)), _, _) => (&built.scene.state, true),
+        (_, Ok(built), _) => (&built.scene.state, built.scene.state.trace.lacks == 0),
+        (_, Err(_), Some(scene)) => (&scene.state, false),
+        (_, Err(why), None) => return Finding::missing(why),
+    };
+    let walk = follow(&given.pack, laid, exact, given.names);
+    let by_name = if exact { "" } else { ", by the names of their blocks alone" };
+    let found = format!("{}{by_name}", count(walk.pointers, "pointer"));
+    Finding::of(found, Faults { first: walk.fault, count: walk.faults })
 }
 
-/// Builds the sheet with a schema file, with as many records as it takes.
-fn rebuild(sheet: &[u8], schema: &[u8]) -> Result<Vec<u8>, String> {
-    let (_, work) = work_lengths(schema);
-    let mut records = 4_096;
-    loop {
-        let built = library::build(sheet, schema, work, LONGEST_PACK, records)?;
-        if built.code == 14 && records < 1 << 24 {
-            records *= 8;
-        } else if built.code != 0 {
-            let place = places::of_build(built.code, sheet, schema);
-            return Err(format!("building is refused: {}", refused(built.code, place.as_deref())));
-        } else {
-            return Ok(built.file);
+/// The pack's definitions against those that building uses.
+fn definitions(given: &Given, own: &Result<Rebuilt, Missing>, theirs: Option<&Result<Rebuilt, Missing>>) -> Finding {
+    let file = given.pack.file;
+    let faults = match (theirs, own) {
+        (Some(Ok(built)), _) => carries(file, &built.file, "the schema file", &built.scene.state, given.names),
+        (Some(Err(why)), _) | (None, Err(why)) => return Finding::missing(why),
+        (None, Ok(built)) => {
+            let mut faults = Faults::default();
+            lacks(&built.scene.state, &mut faults, given.names);
+            faults.join(carries(file, &built.file, "its rebuild", &built.scene.state, given.names));
+            faults
         }
-    }
+    };
+    Finding::of(counted(file), faults)
 }
 
 /// What stands at a byte of the pack.
@@ -123,60 +119,60 @@ fn standing(pack: &Pack, at: usize) -> String {
 }
 
 /// The pack and what was built are the same bytes.
-fn same_bytes(pack: &Pack, built: &[u8]) -> Finding {
+fn same_bytes(pack: &Pack, built: &Result<Rebuilt, Missing>) -> Finding {
+    let built = match built {
+        Ok(b) => &b.file,
+        Err(why) => return Finding::missing(why),
+    };
     let file = pack.file;
     if let Some(at) = file.iter().zip(built).position(|(x, y)| x != y) {
         let (has, due) = (file[at], built[at]);
-        return Err(format!("byte {at}, {}, is 0x{has:02X}, 0x{due:02X} is due", standing(pack, at)));
+        return Finding::Fail(format!("byte {at}, {}, is 0x{has:02X}, 0x{due:02X} is due", standing(pack, at)));
     }
     if file.len() != built.len() {
-        return Err(format!(
-            "the pack has {} bytes, {} are due",
-            commas(file.len() as u64),
-            commas(built.len() as u64)
-        ));
+        let (has, due) = (commas(file.len() as u64), commas(built.len() as u64));
+        return Finding::Fail(format!("the pack has {has} bytes, {due} are due"));
     }
-    Ok(format!("the same {}", count(built.len() as u64, "byte")))
+    Finding::Pass(format!("the same {}", count(built.len() as u64, "byte")))
 }
 
-/// The checks that need the scene.
-fn with_scene(list: &mut List, pack: &Pack, sheet: &[u8], schema: Option<&[u8]>) {
-    let again = rebuild(sheet, pack.file);
-    let definitions = again.as_ref().map_err(String::clone).and_then(|built| {
-        let (structures, enums) = against_scene(pack.file, built)?;
-        schema.map_or(Ok(()), |s| against_schema(pack.file, s))?;
-        Ok(format!("{}, {}", count(structures as u64, "structure"), count(enums as u64, "enum")))
-    });
-    list.add("schema against scene", definitions);
-    list.add("rebuild from the pack's own schema", again.and_then(|built| same_bytes(pack, &built)));
-    if let Some(s) = schema {
-        list.add("rebuild from the schema file", rebuild(sheet, s).and_then(|built| same_bytes(pack, &built)));
+/// The checks of a pack that the reader accepts.
+fn check(given: &Given, list: &mut List) {
+    list.add("sections end to end", end_to_end(given.pack.file));
+    list.add("block list against the data", block_list(&given.pack));
+    let own = rebuild(given.sheet, given.pack.file, "the pack", given.names);
+    let theirs = given.schema.map(|s| rebuild(given.sheet, s, "the schema file", given.names));
+    list.add("pointers followed", pointers(given, &own, theirs.as_ref()));
+    list.add("schema against scene", definitions(given, &own, theirs.as_ref()));
+    list.add("rebuild from the pack's own schema", same_bytes(&given.pack, &own));
+    if let Some(theirs) = &theirs {
+        list.add("rebuild from the schema file", same_bytes(&given.pack, theirs));
     }
+    if let Ok(built) = theirs.as_ref().unwrap_or(&own) {
+        list.remarks = told(&built.remarks, Some(&built.scene), given.names);
+    }
+}
+
+/// The checks of any file.
+fn check_file(file: &[u8], o: &Accept, sheet: &[u8], schema: Option<&[u8]>, names: &Names, list: &mut List) {
+    let reading = match accepted(file, &files::shown(&o.pack)) {
+        Ok(reading) if file.len() <= LONGEST_PACK => reading,
+        Ok(_) => {
+            let most = commas(LONGEST_PACK as u64);
+            return list.end(format!("{} bytes, no pack has more than {most}", commas(file.len() as u64)));
+        }
+        Err(refusal) => return list.end(refusal),
+    };
+    check(&Given { pack: Pack::of(file, &reading), sheet, schema, names }, list);
 }
 
 pub fn run(o: &Accept) -> Result<u8, Stop> {
-    let file = files::read_file(&o.pack)?;
-    let sheet = files::read_sheet(&o.sheet)?;
-    let schema = o.schema.as_ref().map(|s| files::read_file(s)).transpose()?;
-    let name = files::shown(&o.pack);
-    let mut list = List { text: String::new(), checks: 0, failed: 0 };
-    match accepted(&file, &name) {
-        Err(refusal) => {
-            list.add("sections end to end", Err(refusal));
-            list.text.push_str("the rest was not checked: the pack cannot be read\n");
-        }
-        Ok(reading) => {
-            let pack = Pack::of(&file, &reading);
-            list.add("sections end to end", end_to_end(&file));
-            list.add("block list against the data", block_list(&pack));
-            list.add("pointers followed", pointers(&pack));
-            with_scene(&mut list, &pack, &sheet, schema.as_deref());
-        }
-    }
-    let verdict = match list.failed {
-        0 => format!("{name}: accepted\n"),
-        n => format!("{name}: not accepted, {n} of {} failed\n", count(list.checks as u64, "check")),
-    };
-    print((list.text + &verdict).as_bytes())?;
-    Ok(if list.failed == 0 { DONE } else { FAILED })
+    let file = files::read_file(&o.pack).map_err(Stop::unchecked)?;
+    let sheet = files::read_sheet(&o.sheet).map_err(Stop::unchecked)?;
+    let schema = o.schema.as_ref().map(|s| files::read_file(s)).transpose().map_err(Stop::unchecked)?;
+    let names = Names::of(o.names.as_deref()).map_err(Stop::unchecked)?;
+    let mut list = List::default();
+    check_file(&file, o, &sheet, schema.as_deref(), &names, &mut list);
+    list.print(o)?;
+    Ok(list.status())
 }

@@ -1,10 +1,10 @@
 //! Files in and out. A pack replaces an old one only when it is whole.
 use crate::progress::Progress;
 use crate::words::{commas, fault};
-use crate::Stop;
+use crate::{output, Stop};
 use std::ffi::OsStr;
 use std::fs::{self, File, OpenOptions, Permissions};
-use std::io::{self, ErrorKind, Read, Write};
+use std::io::{self, BufWriter, ErrorKind, Read, Write};
 use std::os::unix::fs::MetadataExt;
 use std::path::{Path, PathBuf};
 
@@ -18,8 +18,17 @@ const STEP: usize = 1 << 20;
 
 /// A file's name in messages.
 pub fn shown(path: &OsStr) -> String {
+    named(path, "standard input")
+}
+
+/// An output's name in messages.
+pub fn shown_out(path: &OsStr) -> String {
+    named(path, "standard output")
+}
+
+fn named(path: &OsStr, stream: &str) -> String {
     if path == "-" {
-        "standard input".into()
+        stream.into()
     } else {
         path.to_string_lossy().into_owned()
     }
@@ -65,17 +74,30 @@ pub fn read_file(path: &OsStr) -> Result<Vec<u8>, Stop> {
     Ok(bytes)
 }
 
-/// Whether two names lead to one file.
-pub fn same(a: &OsStr, b: &OsStr) -> bool {
-    match (fs::metadata(a), fs::metadata(b)) {
-        (Ok(x), Ok(y)) => a != "-" && b != "-" && (x.dev(), x.ino()) == (y.dev(), y.ino()),
-        _ => false,
+/// What tells a file from others, where it is there.
+pub fn number(path: &OsStr) -> Option<(u64, u64)> {
+    let found = fs::metadata(path).ok().filter(|_| path != "-")?;
+    Some((found.dev(), found.ino()))
+}
+
+/// A file's place without links, also of one that is not there yet.
+pub fn place(path: &OsStr) -> PathBuf {
+    let path = Path::new(path);
+    let new = || Some(fs::canonicalize(directory(path)).ok()?.join(path.file_name()?));
+    fs::canonicalize(path).ok().or_else(new).unwrap_or_else(|| path.into())
+}
+
+/// The directory that a file is in.
+fn directory(path: &Path) -> &Path {
+    match path.parent() {
+        Some(p) if !p.as_os_str().is_empty() => p,
+        _ => Path::new("."),
     }
 }
 
 /// Where a pack goes.
 pub enum Target {
-    Output,
+    Output(BufWriter<File>),
     /// A device or a pipe, which has no old content.
     Stream(PathBuf),
     /// A file that is there or not yet, with the rights of the old one.
@@ -87,7 +109,7 @@ pub fn target(path: &OsStr) -> Result<Target, Stop> {
     let stop = |reason: &str| Stop::failed(format!("{}: {reason}", path.to_string_lossy()));
     let named = |e: io::Error| stop(&fault(&e));
     if path == "-" {
-        return Ok(Target::Output);
+        return output::open().map(Target::Output);
     }
     let old = match fs::metadata(path) {
         Err(e) if e.kind() == ErrorKind::NotFound => {
@@ -113,14 +135,11 @@ pub fn target(path: &OsStr) -> Result<Target, Stop> {
 
 impl Target {
     /// Writes a pack. Where that fails an old file is what it was.
-    pub fn write(&self, bytes: &[u8]) -> io::Result<()> {
+    pub fn write(self, bytes: &[u8]) -> io::Result<()> {
         match self {
-            Target::Output => {
-                let mut out = io::stdout().lock();
-                out.write_all(bytes).and_then(|()| out.flush())
-            }
+            Target::Output(mut out) => out.write_all(bytes).and_then(|()| out.flush()),
             Target::Stream(path) => OpenOptions::new().write(true).open(path)?.write_all(bytes),
-            Target::File(path, rights) => replace(path, rights.as_ref(), bytes),
+            Target::File(path, rights) => replace(&path, rights.as_ref(), bytes),
         }
     }
 }
@@ -139,10 +158,7 @@ fn temporary(directory: &Path) -> io::Result<(PathBuf, File)> {
 
 /// Writes a file beside the target, whole and on disk, then gives it the target's name.
 fn replace(target: &Path, rights: Option<&Permissions>, bytes: &[u8]) -> io::Result<()> {
-    let directory = match target.parent() {
-        Some(p) if !p.as_os_str().is_empty() => p,
-        _ => Path::new("."),
-    };
+    let directory = directory(target);
     let (path, mut file) = temporary(directory)?;
     let done = file
         .write_all(bytes)

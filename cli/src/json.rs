@@ -1,79 +1,105 @@
-//! `read --json`: one object, numbers as numbers, section names as text.
-use crate::definitions::{entries, members};
-use crate::library::{self, Reading};
-use crate::sections::{Listed, Section};
+//! JSON: its layout, and lists that are written while they are made.
+use serde::{Serialize, Serializer};
+use serde_json::ser::Formatter;
 use std::io::{self, Write};
 
-pub struct View<'a> {
-    pub name: String,
-    pub file: &'a [u8],
-    pub reading: Reading,
-    pub sections: Vec<Section>,
-    pub definitions: Vec<Listed>,
+/// The outer object and its lists in lines, each item of a list on one line.
+struct Lines {
+    depth: usize,
+    filled: bool,
 }
 
-/// A text in quotes.
-fn quoted(text: &str) -> String {
-    let mut out = String::from("\"");
-    for c in text.chars() {
-        match c {
-            '"' | '\\' => out.extend(['\\', c]),
-            c if (c as u32) < 0x20 || c == '\u{7f}' => out.push_str(&format!("\\u{:04x}", c as u32)),
-            c => out.push(c),
+/// The outer object has depth 1, a list in it depth 2.
+const OBJECT: usize = 1;
+const LIST: usize = 2;
+
+impl Lines {
+    fn begin<W: Write + ?Sized>(&mut self, out: &mut W, sign: &[u8]) -> io::Result<()> {
+        self.depth += 1;
+        self.filled = false;
+        out.write_all(sign)
+    }
+
+    /// Before an item: a comma, and a new line where the depth has its items in lines.
+    fn item<W: Write + ?Sized>(&mut self, out: &mut W, first: bool, in_lines: usize) -> io::Result<()> {
+        match (first, self.depth == in_lines) {
+            (true, false) => Ok(()),
+            (false, false) => out.write_all(b", "),
+            (first, true) => write!(out, "{}\n{:2$}", if first { "" } else { "," }, "", 2 * self.depth),
         }
     }
-    out.push('"');
-    out
-}
 
-/// A list with one line for each item.
-fn list(out: &mut impl Write, key: &str, lines: impl Iterator<Item = String>, last: bool) -> io::Result<()> {
-    write!(out, "  {}: [", quoted(key))?;
-    let mut first = true;
-    for line in lines {
-        write!(out, "{}\n    {line}", if first { "" } else { "," })?;
-        first = false;
+    fn end<W: Write + ?Sized>(&mut self, out: &mut W, sign: &[u8], in_lines: usize) -> io::Result<()> {
+        if self.filled && self.depth == in_lines {
+            write!(out, "\n{:1$}", "", 2 * self.depth - 2)?;
+        }
+        self.depth -= 1;
+        self.filled = true;
+        out.write_all(sign)
     }
-    writeln!(out, "{}]{}", if first { "" } else { "\n  " }, if last { "" } else { "," })
 }
 
-fn structure(file: &[u8], d: &Listed) -> String {
-    let members: Vec<String> = members(file, d)
-        .map(|m| {
-            format!(
-                "{{\"name\": {}, \"type\": {}, \"subtype\": {}, \"offset\": {}, \"reference\": {}}}",
-                m.name, m.kind, m.subtype, m.offset, m.reference
-            )
-        })
-        .collect();
-    let members = members.join(", ");
-    format!(
-        "{{\"name\": {}, \"at\": {}, \"unknown\": {}, \"size\": {}, \"members\": [{members}]}}",
-        d.name, d.at, d.unknown, d.size
-    )
+impl Formatter for Lines {
+    fn begin_array<W: Write + ?Sized>(&mut self, out: &mut W) -> io::Result<()> {
+        self.begin(out, b"[")
+    }
+
+    fn end_array<W: Write + ?Sized>(&mut self, out: &mut W) -> io::Result<()> {
+        self.end(out, b"]", LIST)
+    }
+
+    fn begin_array_value<W: Write + ?Sized>(&mut self, out: &mut W, first: bool) -> io::Result<()> {
+        self.item(out, first, LIST)
+    }
+
+    fn end_array_value<W: Write + ?Sized>(&mut self, _: &mut W) -> io::Result<()> {
+        self.filled = true;
+        Ok(())
+    }
+
+    fn begin_object<W: Write + ?Sized>(&mut self, out: &mut W) -> io::Result<()> {
+        self.begin(out, b"{")
+    }
+
+    fn end_object<W: Write + ?Sized>(&mut self, out: &mut W) -> io::Result<()> {
+        self.end(out, b"}", OBJECT)
+    }
+
+    fn begin_object_key<W: Write + ?Sized>(&mut self, out: &mut W, first: bool) -> io::Result<()> {
+        self.item(out, first, OBJECT)
+    }
+
+    fn begin_object_value<W: Write + ?Sized>(&mut self, out: &mut W) -> io::Result<()> {
+        out.write_all(b": ")
+    }
+
+    fn end_object_value<W: Write + ?Sized>(&mut self, _: &mut W) -> io::Result<()> {
+        self.filled = true;
+        Ok(())
+    }
 }
 
-fn enumeration(file: &[u8], d: &Listed) -> String {
-    let entries: Vec<String> =
-        entries(file, d).map(|e| format!("{{\"name\": {}, \"value\": {}}}", e.name, e.value as i32)).collect();
-    format!("{{\"name\": {}, \"at\": {}, \"entries\": [{}]}}", d.name, d.at, entries.join(", "))
+fn write_from(depth: usize, value: &impl Serialize, out: &mut impl Write) -> io::Result<()> {
+    let layout = Lines { depth, filled: false };
+    value.serialize(&mut serde_json::Serializer::with_formatter(out, layout)).map_err(io::Error::from)
 }
 
-pub fn write(v: &View, out: &mut impl Write) -> io::Result<()> {
-    let r = &v.reading;
-    writeln!(out, "{{\n  \"file\": {},\n  \"length\": {},", quoted(&v.name), v.file.len())?;
-    writeln!(out, "  \"root\": {},", r.root)?;
-    writeln!(out, "  \"data\": {{\"at\": {}, \"length\": {}}},", r.data_at, r.data_length)?;
-    let section =
-        |s: &Section| format!("{{\"name\": {}, \"at\": {}, \"length\": {}}}", quoted(&s.shown()), s.at, s.length);
-    list(out, "sections", v.sections.iter().map(section), false)?;
-    let block = |k: usize| {
-        let b = library::block(v.file, k);
-        format!("{{\"number\": {k}, \"name\": {}, \"place\": {}, \"length\": {}}}", b.name, b.place, b.length)
-    };
-    list(out, "blocks", (1..=r.blocks).map(block), false)?;
-    let kind = |wanted: bool| v.definitions.iter().filter(move |d| d.is_enum == wanted);
-    list(out, "structures", kind(false).map(|d| structure(v.file, d)), false)?;
-    list(out, "enums", kind(true).map(|d| enumeration(v.file, d)), true)?;
-    writeln!(out, "}}")
+/// Writes an object, with a line end.
+pub fn write(value: &impl Serialize, out: &mut impl Write) -> io::Result<()> {
+    write_from(0, value, out)?;
+    out.write_all(b"\n")
+}
+
+/// Writes an item of a list on one line.
+pub fn write_item(value: &impl Serialize, out: &mut impl Write) -> io::Result<()> {
+    write_from(LIST, value, out)
+}
+
+/// A list by what makes its items: they are written one after the other and not kept.
+pub struct List<F>(pub F);
+
+impl<I: Iterator<Item = T>, T: Serialize, F: Fn() -> I> Serialize for List<F> {
+    fn serialize<S: Serializer>(&self, serializer: S) -> Result<S::Ok, S::Error> {
+        serializer.collect_seq((self.0)())
+    }
 }

@@ -1,4 +1,6 @@
 //! libsandvurek.a by its C interface, include/sandvurek.h. A slice passes as pointer, then length.
+use serde::Serialize;
+use std::alloc::{alloc_zeroed, Layout};
 
 #[repr(C)]
 struct Outcome {
@@ -7,7 +9,7 @@ struct Outcome {
     remarks: usize,
 }
 
-#[derive(Clone, Copy)]
+#[derive(Clone, Copy, Serialize)]
 #[repr(C)]
 pub struct Remark {
     pub kind: u32,
@@ -32,16 +34,6 @@ pub struct Block {
     pub name: u32,
     pub place: u32,
     pub length: u32,
-}
-
-#[derive(Clone, Copy)]
-#[repr(C)]
-pub struct Definition {
-    pub found: u32,
-    pub unknown: u32,
-    pub size: u32,
-    pub count: u32,
-    pub at: usize,
 }
 
 #[derive(Clone, Copy, PartialEq)]
@@ -75,9 +67,6 @@ extern "C" {
         records: usize,
     ) -> Outcome;
     fn sandvurek_read(file: *const u8, length: usize) -> Reading;
-    fn sandvurek_block(file: *const u8, length: usize, number: usize) -> Block;
-    fn sandvurek_structure(file: *const u8, length: usize, name: u32) -> Definition;
-    fn sandvurek_enum(file: *const u8, length: usize, name: u32) -> Definition;
     fn sandvurek_member(file: *const u8, length: usize, at: usize, index: u32) -> Member;
     fn sandvurek_entry(file: *const u8, length: usize, at: usize, index: u32) -> Entry;
 }
@@ -96,20 +85,38 @@ pub struct Built {
     pub remarks: Vec<Remark>,
 }
 
-/// A buffer to lend, or a message.
-fn lend<T: Clone>(count: usize, value: T, what: &str) -> Result<Vec<T>, String> {
-    let mut buffer = Vec::new();
-    buffer.try_reserve_exact(count).map_err(|_| format!("not enough memory for the {what}"))?;
-    buffer.resize(count, value);
-    Ok(buffer)
+/// A buffer of zeros to lend, or a message. The system gives it without writing it.
+fn lend<T: Zero>(count: usize, what: &str) -> Result<Vec<T>, String> {
+    let short = || format!("not enough memory for the {what}");
+    let layout = Layout::array::<T>(count).map_err(|_| short())?;
+    if layout.size() == 0 {
+        return Ok(Vec::new());
+    }
+    let memory = unsafe { alloc_zeroed(layout) }.cast::<T>();
+    if memory.is_null() {
+        return Err(short());
+    }
+    Ok(unsafe { Vec::from_raw_parts(memory, count, count) })
+}
+
+/// What zero bytes are a value of.
+trait Zero {}
+impl Zero for u8 {}
+impl Zero for Remark {}
+
+/// The lengths of the buffers that building is lent.
+#[derive(Clone, Copy, PartialEq)]
+pub struct Lent {
+    pub work: usize,
+    pub out: usize,
+    pub records: usize,
 }
 
 /// Packs a sheet with a schema file.
-pub fn build(sheet: &[u8], schema: &[u8], work: usize, out: usize, records: usize) -> Result<Built, String> {
-    let mut work = lend(work, 0u8, "work area")?;
-    let mut file = lend(out, 0u8, "pack")?;
-    let zero = Remark { kind: 0, structure: 0, member: 0, detail: 0 };
-    let mut remarks = lend(records, zero, "remarks")?;
+pub fn build(sheet: &[u8], schema: &[u8], lent: Lent) -> Result<Built, String> {
+    let mut work = lend::<u8>(lent.work, "work area")?;
+    let mut file = lend::<u8>(lent.out, "pack")?;
+    let mut remarks = lend::<Remark>(lent.records, "remarks")?;
     let o = unsafe {
         sandvurek_build(
             sheet.as_ptr(),
@@ -125,33 +132,36 @@ pub fn build(sheet: &[u8], schema: &[u8], work: usize, out: usize, records: usiz
         )
     };
     file.truncate(o.length);
+    file.shrink_to_fit();
     remarks.truncate(o.remarks);
     Ok(Built { code: o.code, file, remarks })
 }
 
+const NOTHING: Lent = Lent { work: 0, out: 0, records: 0 };
+
 /// 0, or refusal 1, 2 or 3: a sheet that has none of them meets 7 with a schema file that is empty.
 pub fn check_sheet(sheet: &[u8]) -> Result<u32, String> {
-    let code = build(sheet, &[], 0, 0, 0)?.code;
+    let code = build(sheet, &[], NOTHING)?.code;
     Ok(if code == 7 { 0 } else { code })
+}
+
+/// A sheet whose root is a Struct of type 0 without members.
+const LEAST_SHEET: [u8; 28] = {
+    let mut sheet = [0; 28];
+    sheet[3] = 1;
+    sheet[4] = 21;
+    sheet[19] = 1;
+    sheet
+};
+
+/// 0, or refusal 4, 5 or 6: a schema file that has none of them meets 7, or 12 with no work area.
+pub fn check_schema(schema: &[u8]) -> Result<u32, String> {
+    let code = build(&LEAST_SHEET, schema, NOTHING)?.code;
+    Ok(if (4..=6).contains(&code) { code } else { 0 })
 }
 
 pub fn read(file: &[u8]) -> Reading {
     unsafe { sandvurek_read(file.as_ptr(), file.len()) }
-}
-
-/// The block of a number, from 1.
-pub fn block(file: &[u8], number: usize) -> Block {
-    unsafe { sandvurek_block(file.as_ptr(), file.len(), number) }
-}
-
-/// The first structure of a name.
-pub fn structure(file: &[u8], name: u32) -> Definition {
-    unsafe { sandvurek_structure(file.as_ptr(), file.len(), name) }
-}
-
-/// The first enum of a name.
-pub fn enumeration(file: &[u8], name: u32) -> Definition {
-    unsafe { sandvurek_enum(file.as_ptr(), file.len(), name) }
 }
 
 /// The member of a number, from 0, of the structure at a place.

@@ -1,17 +1,15 @@
-//! `pack`: a sheet and a schema file become a pack.
+//! `pack`: sheets and a schema file become packs.
 use crate::arguments::Pack;
-use crate::behind::Behind;
-use crate::library::{self, Built, LARGEST_CHARGE, LEAST_WORK, LONGEST_PACK};
+use crate::jobs::{jobs, Job};
+use crate::library::{Lent, LARGEST_CHARGE, LEAST_WORK, LONGEST_PACK};
+use crate::names::Names;
+use crate::notes::noted;
+use crate::report::{Report, Reports};
+use crate::scene::{self, Scene};
 use crate::sections::index_entries;
-use crate::sheet::Sheet;
-use crate::words::{commas, count, fault, refused, remark};
-use crate::{files, places, say, Stop, DONE};
-use std::ffi::{OsStr, OsString};
-use std::io::IsTerminal;
-use std::path::Path;
-
-const RECORDS: usize = 4_096;
-const MOST_RECORDS: usize = 16_777_216;
+use crate::told::told;
+use crate::words::{commas, count, fault, refused};
+use crate::{files, places, Stop, DONE, FAILED};
 
 /// The shortest work area for a schema file, and the longest that is of use.
 pub fn work_lengths(schema: &[u8]) -> (usize, usize) {
@@ -19,86 +17,101 @@ pub fn work_lengths(schema: &[u8]) -> (usize, usize) {
     (least, least + 4 * LARGEST_CHARGE)
 }
 
-/// The sheet's name with .pso; the standard output for the standard input.
-fn out_name(o: &Pack) -> OsString {
-    match &o.out {
-        Some(name) => name.clone(),
-        None if o.sheet == "-" => "-".into(),
-        None => Path::new(&o.sheet).with_extension("pso").into_os_string(),
+/// What all sheets of a call share.
+struct Packing<'a> {
+    o: &'a Pack,
+    schema: Vec<u8>,
+    names: Names,
+    least: usize,
+    most: usize,
+    work: usize,
+}
+
+/// Why there is no pack: the refusal's number where the library refused, and the message.
+struct Failure {
+    code: Option<u32>,
+    message: String,
+}
+
+impl From<Stop> for Failure {
+    fn from(stop: Stop) -> Failure {
+        Failure { code: None, message: stop.message }
     }
 }
 
-/// The output is none of the inputs.
-fn check_output(o: &Pack, out: &OsStr) -> Result<(), Stop> {
-    let name = out.to_string_lossy();
-    for (input, what) in [(&o.sheet, "sheet"), (&o.schema, "schema file")] {
-        if files::same(input, out) {
-            return Err(Stop::usage(format!("pack: {name} is the {what}; name another output with -o")));
+fn failure<T>(message: String) -> Result<T, Failure> {
+    Err(Failure { code: None, message })
+}
+
+impl<'a> Packing<'a> {
+    fn of(o: &'a Pack) -> Result<Packing<'a>, Stop> {
+        let names = Names::of(o.names.as_deref())?;
+        let schema = files::read_file(&o.schema)?;
+        let (least, most) = work_lengths(&schema);
+        let work = o.work.map_or(most, |w| w.min(most));
+        Ok(Packing { o, schema, names, least, most, work })
+    }
+
+    /// What can be done about a refusal.
+    fn advice(&self, code: u32) -> Option<String> {
+        match code {
+            9 if self.work < self.most => Some(format!("--work gives more room, {} is the most", self.most)),
+            9 => Some("the scene is too large for one pack".into()),
+            12 => Some(format!("--work must be {} or more", self.least)),
+            14 => Some(format!("there are {} records; use --records with more", commas(self.o.records as u64))),
+            _ => None,
         }
     }
-    if out == "-" && std::io::stdout().is_terminal() {
-        return Err(Stop::usage("pack: the standard output is a terminal; name an output with -o"));
+
+    /// The refusal's line, with the file that it comes from and what can be said of its place.
+    fn refusal(&self, job: &Job, code: u32, sheet: &[u8], scene: Option<&Scene>) -> String {
+        let schema = files::shown(&self.o.schema);
+        let file = if (4..=6).contains(&code) { schema.clone() } else { files::shown(job.sheet) };
+        let place = places::of_build(code, sheet, &self.schema, scene, &self.names);
+        let definitions = || format!("{schema} has {}", count(index_entries(&self.schema) as u64, "definition"));
+        let more = if code == 7 { Some(definitions()) } else { self.advice(code) };
+        let known: Vec<String> = place.into_iter().chain(more).collect();
+        format!("{file}: {}", refused(code, Some(known.join("; ").as_str()).filter(|text| !text.is_empty())))
     }
-    Ok(())
-}
 
-/// What can be done about a refusal.
-fn advice(code: u32, work: usize, lengths: (usize, usize), records: usize) -> Option<String> {
-    let (least, most) = lengths;
-    match code {
-        9 if work < most => Some(format!("--work gives more room, {most} is the most")),
-        9 => Some("the scene is too large for one pack".into()),
-        12 => Some(format!("--work must be {least} or more")),
-        14 => Some(format!("there are {} records; use --records with more", commas(records as u64))),
-        _ => None,
+    /// Packs one sheet; the report gets what is known of it.
+    fn pack(&self, job: &Job, report: &mut Report) -> Result<(), Failure> {
+        let sheet = files::read_sheet(job.sheet)?;
+        let target = files::target(&job.out)?;
+        let most = Lent { work: self.work, out: LONGEST_PACK, records: self.o.records };
+        let scene = Scene::of(&sheet, &self.schema, most).ok();
+        let built = scene::build(&sheet, &self.schema, scene.as_ref(), most).map_err(Stop::failed)?;
+        if built.code != 0 {
+            let message = self.refusal(job, built.code, &sheet, scene.as_ref());
+            return Err(Failure { code: Some(built.code), message });
+        }
+        report.remarks = told(&built.remarks, scene.as_ref(), &self.names);
+        report.notes = noted(scene.as_ref(), &self.names);
+        if self.o.strict && !report.remarks.is_empty() {
+            let remarks = count(report.remarks.len() as u64, "remark");
+            return failure(format!("{}: {remarks}, and --strict: the pack was not written", report.sheet));
+        }
+        if let Err(e) = target.write(&built.file) {
+            return failure(format!("{}: {}; the pack was not written", report.pack, fault(&e)));
+        }
+        report.packed(&built);
+        Ok(())
     }
-}
-
-/// The refusal's line, with the file that it comes from.
-fn refusal(o: &Pack, code: u32, place: Option<String>) -> Stop {
-    let file = if (4..=6).contains(&code) { &o.schema } else { &o.sheet };
-    Stop::failed(format!("{}: {}", files::shown(file), refused(code, place.as_deref())))
-}
-
-fn say_remarks(o: &Pack, sheet: &[u8], built: &Built) {
-    let name = files::shown(&o.sheet);
-    let sheet = Sheet::of(sheet).ok().filter(|_| !built.remarks.is_empty());
-    let behind = sheet.as_ref().map(|s| Behind::of(s, &built.file, &built.remarks));
-    for r in &built.remarks {
-        let place = behind.as_ref().and_then(|b| b.shown(r));
-        let place = place.map_or(String::new(), |p| format!(" ({p})"));
-        say(&format!("{name}: {}{place}", remark(r)));
-    }
-}
-
-fn say_summary(name: &str, built: &Built) {
-    let bytes = count(built.file.len() as u64, "byte");
-    let blocks = count(library::read(&built.file).blocks as u64, "block");
-    let definitions = count(index_entries(&built.file) as u64, "definition");
-    let remarks = count(built.remarks.len() as u64, "remark");
-    say(&format!("{name}: {bytes}, {blocks}, {definitions}, {remarks}"));
 }
 
 pub fn run(o: &Pack) -> Result<u8, Stop> {
-    let records = o.records.unwrap_or(RECORDS);
-    if records > MOST_RECORDS {
-        return Err(Stop::usage(format!("pack: --records is at most {MOST_RECORDS}")));
+    let jobs = jobs(o)?;
+    let packing = Packing::of(o)?;
+    let mut reports = Reports::open(o.quiet, o.json)?;
+    let mut status = DONE;
+    for job in &jobs {
+        let mut report = Report::of(files::shown(job.sheet), files::shown_out(&job.out));
+        if let Err(failure) = packing.pack(job, &mut report) {
+            (report.code, report.message) = (failure.code, Some(failure.message));
+            status = FAILED;
+        }
+        reports.add(&report);
     }
-    let out = out_name(o);
-    check_output(o, &out)?;
-    let sheet = files::read_sheet(&o.sheet)?;
-    let schema = files::read_file(&o.schema)?;
-    let target = files::target(&out)?;
-    let lengths = work_lengths(&schema);
-    let work = o.work.map_or(lengths.1, |w| w.min(lengths.1));
-    let built = library::build(&sheet, &schema, work, LONGEST_PACK, records).map_err(Stop::failed)?;
-    if built.code != 0 {
-        let place = places::of_build(built.code, &sheet, &schema);
-        return Err(refusal(o, built.code, place.or_else(|| advice(built.code, work, lengths, records))));
-    }
-    say_remarks(o, &sheet, &built);
-    let name = if out == "-" { "standard output".into() } else { out.to_string_lossy() };
-    target.write(&built.file).map_err(|e| Stop::failed(format!("{name}: {}; the pack was not written", fault(&e))))?;
-    say_summary(&name, &built);
-    Ok(DONE)
+    reports.end()?;
+    Ok(status)
 }

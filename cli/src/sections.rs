@@ -1,5 +1,6 @@
 //! A file's sections and the definitions of its PSCH sections, with the place of what is wrong in them.
 use crate::bytes::{u16_at, u32_at};
+use crate::library::Block;
 
 #[derive(Clone, Copy)]
 pub struct Section {
@@ -32,35 +33,48 @@ fn fault<T>(code: u32, place: String) -> Result<T, Fault> {
     Err(Fault { code, place })
 }
 
-/// The next section, or none behind the last. Fewer than 8 last bytes are no section.
-fn next(file: &[u8], at: usize) -> Result<Option<Section>, Fault> {
-    let left = file.len() - at;
-    if left < 8 {
-        return Ok(None);
+/// The sections of a file one after the other. A broken one is the last.
+pub struct Walk<'a> {
+    file: &'a [u8],
+    at: usize,
+}
+
+pub fn walk(file: &[u8]) -> Walk<'_> {
+    Walk { file, at: 0 }
+}
+
+impl Iterator for Walk<'_> {
+    type Item = Result<Section, Fault>;
+
+    /// Fewer than 8 last bytes are no section.
+    fn next(&mut self) -> Option<Result<Section, Fault>> {
+        let (file, at) = (self.file, self.at);
+        let left = file.len() - at;
+        if left < 8 {
+            return None;
+        }
+        let length = u32_at(file, at + 4) as usize;
+        let section = Section { name: [file[at], file[at + 1], file[at + 2], file[at + 3]], at, length };
+        if length < 8 || length > left {
+            self.at = file.len();
+            let name = section.shown();
+            return Some(fault(4, format!("section {name} at byte {at}: length {length}, {left} bytes to the end")));
+        }
+        self.at += length;
+        Some(Ok(section))
     }
-    let length = u32_at(file, at + 4) as usize;
-    let section = Section { name: [file[at], file[at + 1], file[at + 2], file[at + 3]], at, length };
-    if length < 8 || length > left {
-        let name = section.shown();
-        return fault(4, format!("section {name} at byte {at}: length {length}, {left} bytes to the end"));
-    }
-    Ok(Some(section))
 }
 
 /// The sections before the first broken one, and what is wrong with that.
 pub fn sections(file: &[u8]) -> (Vec<Section>, Option<Fault>) {
-    let mut found = Vec::new();
-    let mut at = 0;
-    loop {
-        match next(file, at) {
-            Ok(Some(s)) => {
-                at += s.length;
-                found.push(s);
-            }
-            Ok(None) => return (found, None),
-            Err(f) => return (found, Some(f)),
-        }
-    }
+    let mut broken = None;
+    let found = walk(file).map_while(|s| s.map_err(|f| broken = Some(f)).ok()).collect();
+    (found, broken)
+}
+
+/// The sections of a name, as far as all are sound.
+fn named<'a>(file: &'a [u8], name: &'static [u8; 4]) -> impl Iterator<Item = Section> + 'a {
+    walk(file).map_while(Result::ok).filter(move |s| s.is(name))
 }
 
 /// A definition of an index: a structure or an enum, its numbers and its place in the file.
@@ -74,18 +88,41 @@ pub struct Listed {
     pub at: usize,
 }
 
-/// The definitions of a PSCH section in index order.
-pub fn index(file: &[u8], section: &Section) -> Result<Vec<Listed>, Fault> {
-    let s = &file[section.at..section.at + section.length];
-    let here = format!("PSCH at byte {}", section.at);
+/// The bytes of a section.
+fn bytes<'a>(file: &'a [u8], section: &Section) -> &'a [u8] {
+    &file[section.at..section.at + section.length]
+}
+
+/// How many entries the index of a PSCH section has.
+fn index_length(s: &[u8], at: usize) -> Result<usize, Fault> {
     if s.len() < 12 {
-        return fault(5, format!("{here}: {} bytes, the head has 12", s.len()));
+        return fault(5, format!("PSCH at byte {at}: {} bytes, the head has 12", s.len()));
     }
     let count = u32_at(s, 8) as usize;
     if count > (s.len() - 12) / 8 {
-        return fault(5, format!("{here}: an index of {count} entries in {} bytes", s.len()));
+        return fault(5, format!("PSCH at byte {at}: an index of {count} entries in {} bytes", s.len()));
     }
-    (0..count).map(|i| listed(s, section.at, i)).collect()
+    Ok(count)
+}
+
+/// The definitions of a PSCH section in index order, or what is wrong in it.
+fn each_listed<'a>(file: &'a [u8], section: &Section) -> impl Iterator<Item = Result<Listed, Fault>> + 'a {
+    let (s, at) = (bytes(file, section), section.at);
+    let (count, broken) = match index_length(s, at) {
+        Ok(count) => (count, None),
+        Err(f) => (0, Some(Err(f))),
+    };
+    broken.into_iter().chain((0..count).map(move |i| listed(s, at, i)))
+}
+
+/// Whether a file has a PSCH section, be it a broken one at the front.
+pub fn has_definitions(file: &[u8]) -> bool {
+    file.starts_with(b"PSCH") || named(file, b"PSCH").next().is_some()
+}
+
+/// The definitions of all PSCH sections in index order, one after the other; the file is sound.
+pub fn definitions(file: &[u8]) -> impl Iterator<Item = Listed> + '_ {
+    named(file, b"PSCH").flat_map(|s| each_listed(file, &s)).map_while(Result::ok)
 }
 
 /// The definition of an index entry.
@@ -120,39 +157,56 @@ fn listed(s: &[u8], section_at: usize, i: usize) -> Result<Listed, Fault> {
 
 /// The index entries of all PSCH sections, as many as their sections can hold.
 pub fn index_entries(file: &[u8]) -> usize {
-    let (sections, _) = sections(file);
-    let counts = sections.iter().filter(|s| s.is(b"PSCH") && s.length >= 12);
+    let counts = named(file, b"PSCH").filter(|s| s.length >= 12);
     counts.map(|s| (u32_at(file, s.at + 8) as usize).min((s.length - 12) / 8)).sum()
 }
 
-/// A PMAP section that is too short for its rows.
-fn map_fault(file: &[u8], section: &Section) -> Option<Fault> {
-    let s = &file[section.at..section.at + section.length];
-    let short = |need: usize| {
-        Some(Fault { code: 16, place: format!("PMAP at byte {}: {} bytes, {need} are due", section.at, s.len()) })
-    };
+/// How many rows a PMAP section has and where they start, or how long it must be.
+fn map_rows(s: &[u8]) -> Result<(usize, usize), usize> {
     if s.len() < 16 {
-        return short(16);
+        return Err(16);
     }
     let (mut count, mut rows) = (u16_at(s, 12) as usize, 16);
     if count == 0 || count >= 0x8000 {
         if s.len() < 24 {
-            return short(24);
+            return Err(24);
         }
         (count, rows) = (u16_at(s, 16) as usize, 24);
     }
-    if s.len() < rows + 16 * count {
-        short(rows + 16 * count)
-    } else {
-        None
+    match rows + 16 * count {
+        need if s.len() < need => Err(need),
+        _ => Ok((count, rows)),
     }
+}
+
+/// The blocks of all PMAP sections in file order; the file is sound.
+pub fn blocks(file: &[u8]) -> impl Iterator<Item = Block> + '_ {
+    named(file, b"PMAP").flat_map(|section| {
+        let s = bytes(file, &section);
+        let (count, rows) = map_rows(s).unwrap_or_default();
+        let number = move |k: usize, field: usize| u32_at(s, rows + 16 * k + 4 * field);
+        (0..count).map(move |k| Block { found: 1, name: number(k, 0), place: number(k, 1), length: number(k, 3) })
+    })
+}
+
+/// A PMAP section that is too short for its rows.
+fn map_fault(file: &[u8], section: &Section) -> Option<Fault> {
+    let need = map_rows(bytes(file, section)).err()?;
+    Some(Fault { code: 16, place: format!("PMAP at byte {}: {} bytes, {need} are due", section.at, section.length) })
+}
+
+/// The first fault in the index of a PSCH section.
+fn index_fault(file: &[u8], section: &Section) -> Option<Fault> {
+    each_listed(file, section).find_map(Result::err)
 }
 
 /// The first fault of a schema file, in file order.
 pub fn schema_fault(file: &[u8]) -> Option<Fault> {
-    let (sections, broken) = sections(file);
-    let faults = sections.iter().filter(|s| s.is(b"PSCH"));
-    faults.filter_map(|s| index(file, s).err()).next().or(broken)
+    walk(file).find_map(|s| match s {
+        Ok(s) if s.is(b"PSCH") => index_fault(file, &s),
+        Ok(_) => None,
+        Err(broken) => Some(broken),
+    })
 }
 
 /// The first fault of a file for the reader.
@@ -164,12 +218,10 @@ pub fn file_fault(file: &[u8]) -> Option<Fault> {
         };
         return Some(Fault { code: 15, place });
     }
-    let (sections, broken) = sections(file);
-    let faults = sections.iter().filter_map(|s| match &s.name {
-        b"PMAP" => map_fault(file, s),
-        b"PSCH" => index(file, s).err(),
-        _ => None,
-    });
-    let mut faults = faults.chain(broken);
-    faults.next()
+    walk(file).find_map(|s| match s {
+        Ok(s) if s.is(b"PMAP") => map_fault(file, &s),
+        Ok(s) if s.is(b"PSCH") => index_fault(file, &s),
+        Ok(_) => None,
+        Err(broken) => Some(broken),
+    })
 }

@@ -66,8 +66,8 @@ impl Row {
     }
 }
 
-/// The rows of a sheet and its text area, or what is wrong.
-fn rows(bytes: &[u8]) -> Result<Sheet<'_>, String> {
+/// The bytes of a sheet's rows, or why its length does not fit its row count.
+pub fn row_area(bytes: &[u8]) -> Result<Range<usize>, String> {
     if bytes.len() > LONGEST_SHEET {
         return Err(format!("longer than the longest sheet, {LONGEST_SHEET} bytes"));
     }
@@ -85,8 +85,15 @@ fn rows(bytes: &[u8]) -> Result<Sheet<'_>, String> {
     if bytes.len() - end > MOST_TEXT {
         return Err(format!("{} bytes of text, at most {MOST_TEXT} are allowed", bytes.len() - end));
     }
-    let mut found = Vec::with_capacity(n);
-    for (i, r) in bytes[4..end].chunks(24).enumerate() {
+    Ok(4..end)
+}
+
+/// The rows of a sheet and its text area, or what is wrong.
+fn rows(bytes: &[u8]) -> Result<Sheet<'_>, String> {
+    let area = row_area(bytes)?;
+    let end = area.end;
+    let mut found = Vec::with_capacity(area.len() / 24);
+    for (i, r) in bytes[area].chunks(24).enumerate() {
         if r[0] as usize >= KINDS.len() {
             return Err(format!("row {i}: there is no kind {}", r[0]));
         }

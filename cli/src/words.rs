@@ -1,5 +1,6 @@
 //! Refusals, remarks and types in words.
 use crate::library::Remark;
+use crate::names::Names;
 use std::io;
 
 /// A system's message without its number.
@@ -88,17 +89,17 @@ fn wanted(detail: u32) -> &'static str {
 }
 
 /// A remark: the structure and member, then what was left out and why.
-pub fn remark(r: &Remark) -> String {
+pub fn remark(r: &Remark, names: &Names) -> String {
     let d = r.detail;
     let text = match r.kind {
         1 => format!("the member does not fit the structure of {}", count(d as u64, "byte")),
         2 => format!("value is not {}", wanted(d)),
         3 => format!("string subtype {d} is not supported"),
-        4 => format!("no definition of structure 0x{d:X}"),
+        4 => format!("no definition of structure {}", names.shown(d)),
         5 => "an array without ARRAYINFO in its structure's definition".into(),
         6 => format!("map subtype {d} is not supported"),
-        7 => format!("no definition of the map's pair structure 0x{d:X}"),
-        8 => format!("no definition of the array's element structure 0x{d:X}"),
+        7 => format!("no definition of the map's pair structure {}", names.shown(d)),
+        8 => format!("no definition of the array's element structure {}", names.shown(d)),
         9 => "an element of the array is not a structure".into(),
         10 => "an array of strings of length 0".into(),
         11 => format!("string subtype {d} is not supported in arrays"),
@@ -106,7 +107,7 @@ pub fn remark(r: &Remark) -> String {
         13 => format!("member type 0x{d:02X} is not supported"),
         k => format!("remark of unknown kind {k}, detail {d}"),
     };
-    format!("structure 0x{:X}, member 0x{:X}: {text}", r.structure, r.member)
+    format!("{}: {text}", names.member(r.structure, r.member))
 }
 
 /// A member's type byte in words.

@@ -12,7 +12,7 @@ for f in case1/case1.sheet case1/case1.schema case1/case1.pso hall/hall.sheet ha
         cp "$e/$f" "$t/hurt"; poke "$t/hurt" "$at" "$((at % 4))$((at % 7))7"
         case $f in
             *.sheet) ended dump "$t/hurt"; ended pack "$t/hurt" --schema "$e/$folder/$folder.schema" -o "$t/x.pso" ;;
-            *.schema) ended pack "$e/$folder/$folder.sheet" --schema "$t/hurt" -o "$t/x.pso" ;;
+            *.schema) ended read "$t/hurt"; ended pack "$e/$folder/$folder.sheet" --schema "$t/hurt" -o "$t/x.pso" ;;
             *) ended read "$t/hurt"; ended accept "$t/hurt" --sheet "$e/$folder/$folder.sheet" ;;
         esac
         tried=$((tried + 1)); at=$((at + step))

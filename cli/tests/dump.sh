@@ -9,3 +9,4 @@ run 1 dump "$t/short"; has err "short: refusal 1: the sheet breaks its layout (2
 run 1 dump "$t/nan"; has out "0  F32 NaN (0x7FC00000)"; has err "refusal 3: the root is no Struct (row 0 is F32)"
 cp "$e/hall/hall.sheet" "$t/high"; poke "$t/high" "$(place "$t/high" bright)" 377
 run 1 dump "$t/high"; has out 'Str "\xffright"'; has err "refusal 2"
+run 1 dump "$e/hall/hall.pso"; has err "hall.pso: refusal 1: the sheet breaks its layout (this is a PSO file, a sheet is due)"; empty out

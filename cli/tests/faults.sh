@@ -11,9 +11,10 @@ run 1 pack "$t" --schema "$e/case1/case1.schema" -o "$t/old.pso"; has err "Is a 
 run 1 read "$t/missing"; has err "No such file"; empty out
 run 1 read "$t"; has err "Is a directory"
 run 1 dump "$t/missing"; has err "No such file"
-run 1 accept "$t/missing" --sheet "$e/case1/case1.sheet"; has err "No such file"; empty out
-run 1 accept "$e/case1/case1.pso" --sheet "$t/missing"; has err "No such file"; empty out
-run 1 accept "$e/case1/case1.pso" --sheet "$e/case1/case1.sheet" --schema "$t/missing"; has err "No such file"
+run 2 accept "$t/missing" --sheet "$e/case1/case1.sheet"; has err "No such file"; empty out
+run 2 accept "$e/case1/case1.pso" --sheet "$t/missing"; has err "No such file"; empty out; lacks err "try:"
+run 2 accept "$e/case1/case1.pso" --sheet "$e/case1/case1.sheet" --schema "$t/missing"; has err "No such file"
+run 2 accept "$e/case1/case1.pso" --sheet "$e/case1/case1.sheet" --names "$t/missing"; has err "No such file"
 truncate -s 268435457 "$t/huge"
 run 1 read "$t/huge"; has err "longer than 268,435,456 bytes"
 run 1 pack "$e/case1/case1.sheet" --schema "$t/huge" -o "$t/old.pso"; has err "longer than 268,435,456 bytes"; whole
@@ -40,6 +41,21 @@ ok "status $got for a full standard output" [ "$got" = 1 ]; has err "standard ou
 got=0; "$S" read "$e/hall/hall.pso" >/dev/full 2>"$t/err" || got=$?
 ok "status $got for a full standard output" [ "$got" = 1 ]; has err "standard output: No space left"
 ok "a reader that goes away" sh -c '"$1" read "$2" 2>"$3" | head -n 1 >/dev/null && ! grep -q panic "$3"' sh "$S" "$e/hall/hall.pso" "$t/err"
+
+# A closed standard output, and one that is not for writing. /dev/null takes all.
+of_case1="$e/case1/case1.pso --sheet $e/case1/case1.sheet"
+for words in "pack $good -o -" "pack $good -o $t/new.pso --json" "read $e/hall/hall.pso" "read $e/hall/hall.pso --json" \
+    "accept $of_case1" "dump $e/hall/hall.sheet" --help --version "help pack" "completions bash"; do
+    got=0; "$S" $words >&- 2>"$t/err" || got=$?
+    ok "status $got of $words >&-" [ "$got" = 1 ]; has err "standard output: it is closed"
+    got=0; "$S" $words 1</dev/null 2>"$t/err" || got=$?
+    ok "status $got of $words 1</dev/null" [ "$got" = 1 ]; has err "standard output: Bad file descriptor"
+    got=0; "$S" $words >/dev/null 2>"$t/err" || got=$?
+    ok "status $got of $words >/dev/null" [ "$got" = 0 ]
+done
+rm "$t/new.pso"
+got=0; "$S" pack $good -o "$t/new.pso" >&- 2>&- || got=$?
+ok "status $got of a pack without output" [ "$got" = 0 ]; same "$t/new.pso" "$e/case1/case1.pso"
 
 # The output is not an input.
 cp "$e/hall/hall.pso" "$t/hall.pso"; cp "$e/hall/hall.sheet" "$t/hall.sheet"; ln -s hall.pso "$t/linked.pso"

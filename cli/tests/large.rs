@@ -1,14 +1,8 @@
 //! Writes scenes at the limits into a directory: blocks (10), file (13), remarks (14), full (the largest charge).
+mod pso;
+
+use pso::{row, schema, structure, words};
 use std::{env, fs, path::Path};
-
-fn words(numbers: &[u32]) -> Vec<u8> {
-    numbers.iter().flat_map(|n| n.to_be_bytes()).collect()
-}
-
-/// A sheet's row: kind, name, fields.
-fn row(kind: u32, name: u32, fields: [u32; 4]) -> Vec<u8> {
-    [words(&[kind << 24, name]), words(&fields)].concat()
-}
 
 /// A Struct 0x40 whose member 0x41 is an array of Structs without members, of these types.
 fn list_sheet(types: std::ops::Range<u32>) -> Vec<u8> {
@@ -17,22 +11,6 @@ fn list_sheet(types: std::ops::Range<u32>) -> Vec<u8> {
     out.extend(row(21, 0, [0x40, 1, 1, 0]));
     out.extend(row(19, 0x41, [2, n, 0, 0]));
     types.for_each(|t| out.extend(row(21, 0, [t, n + 2, 0, 0])));
-    out
-}
-
-/// A structure's bytes.
-fn structure(size: u32, members: &[[u32; 3]]) -> Vec<u8> {
-    [words(&[members.len() as u32, size, 0]), words(&members.concat())].concat()
-}
-
-/// A PSCH section: names with the number of their body, bodies.
-fn schema(names: &[(u32, usize)], bodies: &[Vec<u8>]) -> Vec<u8> {
-    let base = 12 + 8 * names.len();
-    let place = |k: usize| base + bodies[..k].iter().map(Vec::len).sum::<usize>();
-    let places: Vec<u32> = (0..bodies.len()).map(|k| place(k) as u32).collect();
-    let mut out = [b"PSCH".to_vec(), words(&[place(bodies.len()) as u32, names.len() as u32])].concat();
-    names.iter().for_each(|(name, body)| out.extend(words(&[*name, places[*body]])));
-    out.extend(bodies.concat());
     out
 }
 

@@ -7,7 +7,7 @@ cp "$e/case1/case1.sheet" "$t/a.sheet"
 run 0 pack "$t/a.sheet" $case1; same "$t/a.pso" "$e/case1/case1.pso"; empty out
 has err "a.pso: 96 bytes, 1 block, 1 definition, 0 remarks"
 run 0 pack "$e/hall/hall.sheet" $hall -o "$t/hall.pso"; same "$t/hall.pso" "$e/hall/hall.pso"; empty out
-has err "hall.sheet: structure 0xC8FDDC97, member 0x9F5ED20C: value is not a float (row 44)"
+has err "remark: $e/hall/hall.sheet: structure 0xC8FDDC97, member 0x9F5ED20C: value is not a float (row 44)"
 has err "hall.pso: 1,244 bytes, 9 blocks, 9 definitions, 1 remark"
 # The pack is a schema file too.
 run 0 pack "$e/hall/hall.sheet" --schema "$e/hall/hall.pso" -o "$t/again.pso"; same "$t/again.pso" "$e/hall/hall.pso"
@@ -51,23 +51,34 @@ hurt "$e/case1/case1.schema" 11 7; wrong 5 "an index of 7 entries in 44 bytes"
 hurt "$e/case1/case1.schema" 19 52; wrong 5 "entry 1 of the index: definition 0x40 at 42 of 44 bytes"
 hurt "$e/case1/case1.schema" 23 2; wrong 5 "with 2 members, section of 44 bytes"
 hurt "$e/case1/case1.schema" 20 2; wrong 6 "definition 0x40 at 20: top byte 2"
-refuse 7 "$e/case1/case1.sheet" $hall; has err "(type 0x40)"
-refuse 7 "$e/case1/case1.sheet" --schema "$t/nothing"
+refuse 7 "$e/case1/case1.sheet" $hall; has err "(type 0x40; $e/hall/hall.schema has 10 definitions)"
+refuse 7 "$e/case1/case1.sheet" --schema "$t/nothing"; has err "nothing has 0 definitions)"
+# One kind of file where another is due.
+refuse 1 "$e/hall/hall.pso" $hall; has err "hall.pso: refusal 1: the sheet breaks its layout (this is a PSO file, a sheet is due)"
+refuse 1 "$e/hall/hall.schema" $hall; has err "this is a PSO file, a sheet is due"
+{ printf 'STRF\0\0\0\10'; cat "$e/hall/hall.pso"; } >"$t/strf"; refuse 1 "$t/strf" $hall; has err "this is a PSO file"
+head -c 100 "$e/hall/hall.pso" >"$t/cut"; refuse 1 "$t/cut" $hall; has err "this is a PSO file"
+printf 'STRF\0\0\0\7abcd' >"$t/text"; refuse 1 "$t/text" $hall; lacks err "PSO file"
+{ printf 'STRF\0\220\0\0'; head -c 9437176 /dev/zero; } >"$t/longer"; refuse 1 "$t/longer" $hall; has err "this is a PSO file"
+refuse 4 "$e/hall/hall.sheet" --schema "$e/hall/hall.sheet"; has err "this looks like a sheet, a schema file is due"
 # A structure inside itself.
 cp "$e/case1/case1.sheet" "$t/null"; poke "$t/null" 28 0; poke "$t/null" 39 0
 hurt "$e/case1/case1.schema" 36 14 0 0 0 0 0 0 100; refuse 8 "$t/null" --schema "$t/hurt"
-refuse 9 "$e/case1/case1.sheet" $case1 --work 65544; has err "--work gives more room, 16842760 is the most"
+has err "(structure 0x40, member 0x41: structure 0x40 would start there)"
+refuse 9 "$e/case1/case1.sheet" $case1 --work 65544
+has err "(row 0, the root: 0 are charged, 20 more would be, the cap is 0; --work gives more room, 16842760 is the most)"
 refuse 12 "$e/case1/case1.sheet" $case1 --work 65543; has err "--work must be 65544 or more"
 run 0 pack "$e/case1/case1.sheet" $case1 --work 65624 -o "$t/tight.pso"; same "$t/tight.pso" "$e/case1/case1.pso"
 run 0 pack "$e/case1/case1.sheet" $case1 --work 999999999999 -o "$t/wide.pso"; same "$t/wide.pso" "$e/case1/case1.pso"
 hurt "$e/hall/hall.sheet" "$(place "$e/hall/hall.sheet" bright)" 061 062 056 065 060 060
-refuse 11 "$t/hurt" $hall; has err 'row 44 "12.500"'
+refuse 11 "$t/hurt" $hall; has err 'row 44, structure 0xC8FDDC97, member 0x9F5ED20C: "12.500"'
 refuse 14 "$e/hall/hall.sheet" $hall --records 0; has err "there are 0 records; use --records with more"
 run 0 pack "$e/hall/hall.sheet" $hall --records 1 -o "$t/one.pso"; same "$t/one.pso" "$e/hall/hall.pso"
 
 # Large scenes: more blocks than pointers reach, a pack that is too long, more remarks than records.
 "$tools/large" "$t"
 refuse 10 "$t/blocks.sheet" --schema "$t/blocks.schema"
+has err "(row 4097, structure 0x40, member 0x41: block 4,096 would be needed, of name 0x1FFF)"
 refuse 13 "$t/file.sheet" --schema "$t/file.schema"
 refuse 14 "$t/remarks.sheet" --schema "$t/remarks.schema"; has err "there are 4,096 records"
 run 0 pack "$t/remarks.sheet" --schema "$t/remarks.schema" --records 5000 -o "$t/many.pso"; has err "5,000 remarks"

@@ -1,49 +1,13 @@
 # Remarks: each of the 13 kinds from a scene that causes it, word by word. The root is a Struct 0x40.
 
-# words NUMBER...: each as four bytes.
-words() {
-    for w in "$@"; do
-        for bits in 24 16 8 0; do
-            b=$((w >> bits & 255))
-            # shellcheck disable=SC2059
-            printf "\\$((b >> 6))$((b >> 3 & 7))$((b & 7))"
-        done
-    done
-}
-
-# structure NAME SIZE MEMBER...: a section with one definition; a member is "name type subtype offset reference".
-structure() {
-    name=$1 size=$2; shift 2
-    printf PSCH; words $((32 + 12 * $#)) 1 "$name" 20 $# "$size" 0
-    # shellcheck disable=SC2086
-    for m in "$@"; do set -- $m; words "$1" $(($2 << 24 | $3 << 16 | $4)) "$5"; done
-}
-
-# sheet ROW...: a row is "kind name a b c d", what is left out is zero.
-# Kinds: 0 Null, 2 I8, 7 U32, 10 F32, 11 Vec2, 12 Vec3, 14 Hash, 15 Str, 16 Enum, 17 Flags, 18 Bytes, 19 Array, 20 Map,
-# 21 Struct.
-sheet() { words $#; rows "$@"; }
-rows() {
-    # shellcheck disable=SC2086
-    for r in "$@"; do set -- $r; words $(($1 << 24)) "$2" "${3:-0}" "${4:-0}" "${5:-0}" "${6:-0}"; done
-}
-
-# The schema file $t/a.schema and the sheet $t/a.sheet:
-# member DEFINITION: structure 0x40 has 24 bytes and the member 0x41.
-member() { structure 0x40 24 "0x41 $1" >"$t/a.schema"; }
-# array ELEMENT: its member 0x41 is an array by pointer of such elements.
-array() { structure 0x40 24 "0x100 $1" "0x41 0x0D 0 0 0" >"$t/a.schema"; }
-# holds ROW...: the root holds the member of row 1, further rows are behind it.
-holds() { sheet "21 0 0x40 1 1" "$@" >"$t/a.sheet"; }
-# bare: the root holds nothing.
-bare() { sheet "21 0 0x40 1 0" >"$t/a.sheet"; }
+. cli/tests/scene.sh
 
 # says LINE...: the scene is packed with these remarks and no others, and its pack is accepted.
 says() {
     run 0 pack "$t/a.sheet" --schema "$t/a.schema"; empty out
     ending=s; [ $# != 1 ] || ending=
-    { for line in "$@"; do echo "$t/a.sheet: $line"; done; echo "$# remark$ending"; } >"$t/due"
-    sed '$s/^.*, //' "$t/err" >"$t/said"; same "$t/said" "$t/due"
+    { for line in "$@"; do echo "remark: $t/a.sheet: $line"; done; echo "$# remark$ending"; } >"$t/due"
+    grep -v '^note: ' "$t/err" | sed '$s/^.*, //' >"$t/said"; same "$t/said" "$t/due"
     run 0 accept "$t/a.pso" --sheet "$t/a.sheet" --schema "$t/a.schema"; lacks out FAIL
 }
 it="structure 0x40, member 0x41"
@@ -83,7 +47,7 @@ done
 # 4: no definition of a structure: inline, by pointer (the reference is named, not the row's type), in a run of pointers.
 member "0x0C 0 0 0x50"; holds "21 0x41 0x50 2 0"; says "$it: no definition of structure 0x50 (row 1)"
 member "0x0C 3 0 0x50"; holds "21 0x41 0x60 2 0"; says "$it: no definition of structure 0x50 (row 1)"
-array "0x0C 3 0 0x50"; holds "19 0x41 2 1" "21 0 0x60 3 0"; says "$it: no definition of structure 0x50 (row 1)"
+array "0x0C 3 0 0x50"; holds "19 0x41 2 1" "21 0 0x60 3 0"; says "$it: no definition of structure 0x50 (row 2)"
 
 # 5: the reference leads to no member that could be the ARRAYINFO; also where the value is missing.
 member "0x0D 0 0 1"; holds "19 0x41 2 0"
@@ -103,7 +67,7 @@ holds "20 0x41 2 0"; says
 # 8, 9: no definition of the elements, and an element that is no structure.
 array "0x0C 0 0 0x50"; holds "19 0x41 2 2" "21 0 0x50 4 0" "7 0 7"
 says "$it: no definition of the array's element structure 0x50 (row 1)"
-structure 0x50 4 >>"$t/a.schema"; says "$it: an element of the array is not a structure (row 1)"
+structure 0x50 4 >>"$t/a.schema"; says "$it: an element of the array is not a structure (row 3)"
 holds "19 0x41 2 2" "21 0 0x50 4 0" "0 0"; says
 
 # 10, 11: the length and the subtype of an array's strings.
