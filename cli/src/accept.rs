@@ -1,29 +1,39 @@
 //! `accept`: a pack against the sheet of its scene, line by line.
 use crate::arguments::Accept;
-use crate::library::LONGEST_PACK;
+use crate::library::{self, Reading, LONGEST_PACK};
 use crate::names::Names;
 use crate::pointers::{follow, Pack};
 use crate::progress::Progress;
-use crate::rebuild::{past_refusal, rebuild, Missing, Rebuilt};
+use crate::rebuild::{past_refusal, rebuild, Missing, Rebuilt, Schema};
 use crate::schema_check::{carries, counted, lacks, Faults};
-use crate::sections::sections;
+use crate::sections::{sections, Section};
 use crate::told::told;
 use crate::verdict::{Finding, List};
-use crate::view::accepted;
-use crate::words::{commas, count};
-use crate::{files, Stop};
+use crate::words::{commas, count, refused};
+use crate::{files, places, Stop};
+use sandvurek_model::model::state::State;
 
 /// A pack, its sheet and, where it is given, the schema file.
 struct Given<'a> {
     pack: Pack<'a>,
     sheet: &'a [u8],
-    schema: Option<&'a [u8]>,
+    schema: Option<Schema<'a>>,
     names: &'a Names,
 }
 
+impl<'a> Given<'a> {
+    /// The pack's own definitions.
+    fn own(&self) -> Schema<'a> {
+        Schema { file: self.pack.file, whose: "the pack" }
+    }
+}
+
+const SECTIONS: &str = "sections end to end";
+const BLOCKS: &str = "block list against the data";
+
 /// The three sections of a pack, in their order, from the first byte to the last.
 fn end_to_end(file: &[u8]) -> Finding {
-    let (found, _) = sections(file);
+    let found: Vec<Section> = sections(file).take(4).collect();
     for (k, name) in [b"PSIN", b"PMAP", b"PSCH"].into_iter().enumerate() {
         let due = String::from_utf8_lossy(name);
         match found.get(k) {
@@ -65,46 +75,37 @@ fn block_list(pack: &Pack) -> Finding {
     Finding::Pass(format!("{}, root in block {root}", count(blocks as u64, "block")))
 }
 
-/// Each pointer against the rebuilt pack: the schema file's, else the pack's own. Where there is none, or definitions
-/// are lacking, against the names that packing files under.
-fn pointers(given: &Given, own: &Result<Rebuilt, Missing>, theirs: Option<&Result<Rebuilt, Missing>>) -> Finding {
+/// The pointers of the pack along a scene that was laid.
+fn walk(given: &Given, laid: &State, exact: bool) -> Finding {
     let mut progress = Progress::new();
     if given.pack.file.len() > files::LONG {
         progress.show("following pointers");
     }
-    let past = own.as_ref().err().and_then(|why| past_refusal(given.sheet, given.pack.file, why));
-    let (laid, exact) = match (theirs, own, &past) {
-        (Some(Ok(built)), _, _) => (&built.scene.state, true),
-        (_, Ok(built), _) => (&built.scene.state, built.scene.state.trace.lacks == 0),
-        (_, Err(_), Some(scene)) => (&scene.state, false),
-        (_, Err(why), None) => return Finding::missing(why),
-    };
     let walk = follow(&given.pack, laid, exact, given.names);
     let by_name = if exact { "" } else { ", by the names of their blocks alone" };
-    let found = format!("{}{by_name}", count(walk.pointers, "pointer"));
-    Finding::of(found, Faults { first: walk.fault, count: walk.faults })
+    Finding::of(format!("{}{by_name}", count(walk.pointers, "pointer")), walk.faults)
 }
 
-/// The pack's definitions against those that building uses.
-fn definitions(given: &Given, own: &Result<Rebuilt, Missing>, theirs: Option<&Result<Rebuilt, Missing>>) -> Finding {
-    let file = given.pack.file;
-    let faults = match (theirs, own) {
-        (Some(Ok(built)), _) => carries(file, &built.file, "the schema file", &built.scene.state, given.names),
-        (Some(Err(why)), _) | (None, Err(why)) => return Finding::missing(why),
-        (None, Ok(built)) => {
-            let mut faults = Faults::default();
-            lacks(&built.scene.state, &mut faults, given.names);
-            faults.join(carries(file, &built.file, "its rebuild", &built.scene.state, given.names));
-            faults
-        }
-    };
-    Finding::of(counted(file), faults)
+/// Each pointer against the pack that was rebuilt from the pack's own schema; where there is none, or definitions are
+/// lacking, against the names that packing files under.
+fn pointers(given: &Given, own: &Result<Rebuilt, Missing>) -> Finding {
+    match own {
+        Ok(built) => walk(given, &built.scene.state, built.scene.state.trace.lacks == 0),
+        Err(why) => match past_refusal(given.sheet, given.pack.file, why) {
+            Some(scene) => walk(given, &scene.state, false),
+            None => Finding::missing(why),
+        },
+    }
+}
+
+/// The pack's definitions against those that a building used.
+fn definitions(given: &Given, built: &Rebuilt, schema: Schema) -> Faults {
+    carries(given.pack.file, &built.file, schema.whose, &built.scene.state, given.names)
 }
 
 /// What stands at a byte of the pack.
 fn standing(pack: &Pack, at: usize) -> String {
-    let (sections, _) = sections(pack.file);
-    let section = sections.iter().find(|s| at >= s.at && at - s.at < s.length);
+    let section = sections(pack.file).find(|s| at >= s.at && at - s.at < s.length);
     let in_data = at.checked_sub(pack.reading.data_at).filter(|p| *p < pack.reading.data_length);
     let inside = |k: &usize, p: usize| {
         let b = &pack.blocks[k - 1];
@@ -136,34 +137,83 @@ fn same_bytes(pack: &Pack, built: &Result<Rebuilt, Missing>) -> Finding {
     Finding::Pass(format!("the same {}", count(built.len() as u64, "byte")))
 }
 
-/// The checks of a pack that the reader accepts.
-fn check(given: &Given, list: &mut List) {
-    list.add("sections end to end", end_to_end(given.pack.file));
-    list.add("block list against the data", block_list(&given.pack));
-    let own = rebuild(given.sheet, given.pack.file, "the pack", given.names);
-    let theirs = given.schema.map(|s| rebuild(given.sheet, s, "the schema file", given.names));
-    list.add("pointers followed", pointers(given, &own, theirs.as_ref()));
-    list.add("schema against scene", definitions(given, &own, theirs.as_ref()));
-    list.add("rebuild from the pack's own schema", same_bytes(&given.pack, &own));
-    if let Some(theirs) = &theirs {
-        list.add("rebuild from the schema file", same_bytes(&given.pack, theirs));
+const POINTERS: &str = "pointers followed";
+const SCHEMA: &str = "schema against scene";
+const OWN: &str = "rebuild from the pack's own schema";
+const THEIRS: &str = "rebuild from the schema file";
+
+/// The checks that need the scene, along the pack that the schema file gives. A layout is long, so one is there at a
+/// time.
+fn with_schema(given: &Given, built: Rebuilt, schema: Schema, list: &mut List) {
+    list.add(POINTERS, walk(given, &built.scene.state, true));
+    list.add(SCHEMA, Finding::of(counted(given.pack.file), definitions(given, &built, schema)));
+    list.remarks = told(&built.remarks, Some(&built.scene), given.names);
+    let theirs = same_bytes(&given.pack, &Ok(built));
+    list.add(OWN, same_bytes(&given.pack, &rebuild(given.sheet, given.own(), given.names)));
+    list.add(THEIRS, theirs);
+}
+
+/// The same along the pack's own rebuild; with why nothing was built with the schema file, where one is given.
+fn without_schema(given: &Given, why: Option<Missing>, list: &mut List) {
+    let own = rebuild(given.sheet, given.own(), given.names);
+    list.add(POINTERS, pointers(given, &own));
+    let finding = match (&why, &own) {
+        (Some(why), _) | (None, Err(why)) => Finding::missing(why),
+        (None, Ok(built)) => {
+            let mut faults = lacks(&built.scene.state, given.names);
+            faults.join(definitions(given, built, given.own()));
+            Finding::of(counted(given.pack.file), faults)
+        }
+    };
+    list.add(SCHEMA, finding);
+    list.add(OWN, same_bytes(&given.pack, &own));
+    if let Some(why) = &why {
+        list.add(THEIRS, Finding::missing(why));
     }
-    if let Ok(built) = theirs.as_ref().unwrap_or(&own) {
+    if let Ok(built) = &own {
         list.remarks = told(&built.remarks, Some(&built.scene), given.names);
     }
 }
 
-/// The checks of any file.
-fn check_file(file: &[u8], o: &Accept, sheet: &[u8], schema: Option<&[u8]>, names: &Names, list: &mut List) {
-    let reading = match accepted(file, &files::shown(&o.pack)) {
-        Ok(reading) if file.len() <= LONGEST_PACK => reading,
-        Ok(_) => {
-            let most = commas(LONGEST_PACK as u64);
-            return list.end(format!("{} bytes, no pack has more than {most}", commas(file.len() as u64)));
-        }
-        Err(refusal) => return list.end(refusal),
+/// The checks of a pack that the reader accepts.
+fn check(given: &Given, list: &mut List) {
+    list.add(SECTIONS, end_to_end(given.pack.file));
+    list.add(BLOCKS, block_list(&given.pack));
+    let theirs = given.schema.map(|s| (s, rebuild(given.sheet, s, given.names)));
+    match theirs {
+        Some((schema, Ok(built))) => with_schema(given, built, schema, list),
+        Some((_, Err(why))) => without_schema(given, Some(why), list),
+        None => without_schema(given, None, list),
+    }
+}
+
+/// A file that the reader refuses fails the line that its refusal is about.
+fn refuse(file: &[u8], code: u32, refusal: String, list: &mut List) {
+    let check = match code {
+        16 => BLOCKS,
+        5 | 6 => SCHEMA,
+        _ => SECTIONS,
     };
-    check(&Given { pack: Pack::of(file, &reading), sheet, schema, names }, list);
+    if check != SECTIONS {
+        list.add(SECTIONS, end_to_end(file));
+    }
+    list.end(check, refusal);
+}
+
+/// The checks of any file.
+fn check_file(file: &[u8], given: impl FnOnce(Reading) -> List) -> List {
+    let mut list = List::default();
+    let reading = library::read(file);
+    if reading.code != 0 {
+        let place = places::of_read(reading.code, file);
+        refuse(file, reading.code, refused(reading.code, place.as_deref()), &mut list);
+    } else if file.len() > LONGEST_PACK {
+        let (has, most) = (commas(file.len() as u64), commas(LONGEST_PACK as u64));
+        list.end(SECTIONS, format!("{has} bytes, no pack has more than {most}"));
+    } else {
+        return given(reading);
+    }
+    list
 }
 
 pub fn run(o: &Accept) -> Result<u8, Stop> {
@@ -171,8 +221,14 @@ pub fn run(o: &Accept) -> Result<u8, Stop> {
     let sheet = files::read_sheet(&o.sheet).map_err(Stop::unchecked)?;
     let schema = o.schema.as_ref().map(|s| files::read_file(s)).transpose().map_err(Stop::unchecked)?;
     let names = Names::of(o.names.as_deref()).map_err(Stop::unchecked)?;
-    let mut list = List::default();
-    check_file(&file, o, &sheet, schema.as_deref(), &names, &mut list);
-    list.print(o)?;
+    let schema = schema.as_deref().map(|file| Schema { file, whose: "the schema file" });
+    let list = check_file(&file, |reading| {
+        let mut list = List::default();
+        let given = Given { pack: Pack::of(&file, &reading), sheet: &sheet, schema, names: &names };
+        check(&given, &mut list);
+        list
+    });
+    // A verdict that nobody reads is none.
+    list.print(o).map_err(Stop::unchecked)?;
     Ok(list.status())
 }

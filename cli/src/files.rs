@@ -51,7 +51,9 @@ fn take(from: &mut dyn Read, name: &str, limit: usize) -> io::Result<Vec<u8>> {
 
 fn open_and_take(path: &OsStr, limit: usize) -> Result<Vec<u8>, Stop> {
     let name = shown(path);
-    let bytes = if path == "-" {
+    let bytes = if path == "-" && output::no_input() {
+        return Err(Stop::failed(format!("{name}: it is closed")));
+    } else if path == "-" {
         take(&mut io::stdin().lock(), &name, limit)
     } else {
         File::open(path).and_then(|mut file| take(&mut file, &name, limit))

@@ -27,15 +27,6 @@ pub struct Reading {
     pub blocks: usize,
 }
 
-#[derive(Clone, Copy)]
-#[repr(C)]
-pub struct Block {
-    pub found: u32,
-    pub name: u32,
-    pub place: u32,
-    pub length: u32,
-}
-
 #[derive(Clone, Copy, PartialEq)]
 #[repr(C)]
 pub struct Member {

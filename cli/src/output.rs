@@ -1,4 +1,4 @@
-//! The standard output.
+//! The standard output, and whether it and the standard input were there.
 use crate::words::fault;
 use crate::Stop;
 use std::fs::File;
@@ -6,6 +6,7 @@ use std::io::{self, BufWriter, ErrorKind, Write};
 use std::os::fd::AsFd;
 use std::sync::atomic::{AtomicBool, Ordering};
 
+const INPUT: i32 = 0;
 const OUTPUT: i32 = 1;
 const F_GETFD: i32 = 1;
 
@@ -13,11 +14,13 @@ extern "C" {
     fn fcntl(file: i32, command: i32, ...) -> i32;
 }
 
-/// Whether the program was started with a closed standard output.
-static CLOSED: AtomicBool = AtomicBool::new(false);
+/// Whether the program was started with a closed standard input or output.
+static CLOSED: [AtomicBool; 2] = [AtomicBool::new(false), AtomicBool::new(false)];
 
 extern "C" fn look() {
-    CLOSED.store(unsafe { fcntl(OUTPUT, F_GETFD) } == -1, Ordering::Relaxed);
+    for file in [INPUT, OUTPUT] {
+        CLOSED[file as usize].store(unsafe { fcntl(file, F_GETFD) } == -1, Ordering::Relaxed);
+    }
 }
 
 /// The loader calls this before Rust's runtime puts /dev/null in the place of what is closed.
@@ -27,11 +30,16 @@ static LOOK: extern "C" fn() = look;
 
 /// The standard output, or that it is closed. Written past Rust's own, which takes a file that is not for writing.
 pub fn open() -> Result<BufWriter<File>, Stop> {
-    if CLOSED.load(Ordering::Relaxed) {
+    if CLOSED[OUTPUT as usize].load(Ordering::Relaxed) {
         return Err(Stop::failed("standard output: it is closed"));
     }
     let file = io::stdout().as_fd().try_clone_to_owned().map_err(stop)?;
     Ok(BufWriter::new(File::from(file)))
+}
+
+/// Whether nothing can be read from the standard input, which Rust reads as an empty one.
+pub fn no_input() -> bool {
+    CLOSED[INPUT as usize].load(Ordering::Relaxed)
 }
 
 fn stop(e: io::Error) -> Stop {

@@ -36,6 +36,9 @@ pub fn of_read(code: u32, file: &[u8]) -> Option<String> {
     if code == 15 && looks::is_sheet(file) {
         return Some("this looks like a sheet, a PSO file is due".into());
     }
+    if code == 15 && sections::has_definitions(file) {
+        return Some("this is a schema file, a pack is due".into());
+    }
     sections::file_fault(file).filter(|f| f.code == code).map(|f| f.place)
 }
 

@@ -1,8 +1,9 @@
 //! Follows the pointers of a pack along its scene: each leads to what packing lays for it.
 use crate::bytes::u32_at;
-use crate::library::{Block, Reading};
+use crate::library::Reading;
 use crate::names::Names;
-use crate::sections::{blocks, sections};
+use crate::schema_check::Faults;
+use crate::sections::{blocks, sections, Block};
 use crate::stops;
 use crate::words::count;
 use sandvurek_model::model::buffer::{Leads, Slot};
@@ -55,15 +56,14 @@ impl<'a> Pack<'a> {
 
     /// Where the file says which block is the root's.
     fn root_byte(&self) -> usize {
-        sections(self.file).0.iter().rev().find(|s| s.is(b"PMAP")).map_or(0, |s| s.at + 8)
+        sections(self.file).filter(|s| s.is(b"PMAP")).last().map_or(0, |s| s.at + 8)
     }
 }
 
-/// What was found: the first fault, how many there are, and how many pointers were looked at.
+/// What was found: faults, and how many pointers were looked at.
 #[derive(Default)]
 pub struct Walk {
-    pub fault: Option<String>,
-    pub faults: u64,
+    pub faults: Faults,
     pub pointers: u64,
 }
 
@@ -78,30 +78,21 @@ struct Follow<'a> {
     todo: Vec<(usize, Place)>,
 }
 
-/// Follows the pointers from the root down. The layout is that of the scene with the pack's own definitions; where it
-/// is the rebuilt pack's (`exact`), each pointer must be the one that the rebuilt pack has.
+/// Follows the pointers of a scene that was laid, from the root down. Where it was laid to a pack that this one should
+/// be (`exact`), each pointer is due as it stands there, and else its block's name and room.
 pub fn follow(pack: &Pack, laid: &State, exact: bool, names: &Names) -> Walk {
     let mut f = Follow { pack, laid, names, exact, walk: Walk::default(), todo: Vec::new() };
     f.root();
     while let Some((item, at)) = f.todo.pop() {
-        // The last slot first, since the last of the list is taken next.
-        let mut slots = laid.items[item].slots.clone();
-        slots.sort_by_key(|s| s.at);
-        let mut found = Vec::new();
-        for slot in slots {
-            found.extend(f.slot(&laid.items[item], at, slot));
-        }
+        let item = &laid.items[item];
+        let found: Vec<_> = item.slots.iter().filter_map(|slot| f.slot(item, at, *slot)).collect();
+        // The first is taken next.
         f.todo.extend(found.into_iter().rev());
     }
     f.walk
 }
 
 impl Follow<'_> {
-    fn fault(&mut self, text: impl FnOnce() -> String) {
-        self.walk.faults += 1;
-        self.walk.fault.get_or_insert_with(text);
-    }
-
     /// The root ends its block.
     fn root(&mut self) {
         let (pack, laid, names) = (self.pack, self.laid, self.names);
@@ -109,23 +100,25 @@ impl Follow<'_> {
         let number = pack.reading.root as usize;
         let here = || format!("byte {} of the file, the root's block number, says {number}", pack.root_byte());
         if self.exact && number != root.block as usize {
-            return self.fault(|| format!("{}; {} is due", here(), root.block));
+            return self.walk.faults.add(|| format!("{}; {} is due", here(), root.block));
         }
         let name = laid.blocks[root.block as usize - 1].name;
         let Some((block, bytes)) = pack.block(number) else {
-            return self.fault(|| format!("{}; there is no such block in the data", here()));
+            return self.walk.faults.add(|| format!("{}; there is no such block in the data", here()));
         };
         if block.name != name {
-            return self.fault(|| {
+            return self.walk.faults.add(|| {
                 format!("{}, a block of name {}; {} is due", here(), names.shown(block.name), names.shown(name))
             });
         }
-        match bytes.len().checked_sub(root.bytes.len()) {
-            Some(start) => self.todo.push((last, Place { block: number, start })),
-            None => {
-                let (size, length) = (count(root.bytes.len() as u64, "byte"), bytes.len());
-                self.fault(|| format!("{}, a block of {length}; the root has {size}", here()));
-            }
+        let size = root.bytes.len();
+        let start = if self.exact { root.start as usize } else { bytes.len().saturating_sub(size) };
+        if start + size != bytes.len() {
+            let (has, due) = (count(bytes.len() as u64, "byte"), count((start + size) as u64, "byte"));
+            self.walk.faults.add(|| format!("{}, a block of {has}; {due} are due", here()));
+        }
+        if start + size <= bytes.len() {
+            self.todo.push((last, Place { block: number, start }));
         }
     }
 
@@ -141,15 +134,17 @@ impl Follow<'_> {
         self.walk.pointers += u64::from(pointer != 0);
         // What another member's bytes cover leads nowhere; it is compared all the same.
         let stands = due == pointer;
-        let wrong = if stands { self.wrong(slot.leads, says) } else { None };
-        let due = (self.exact && says != due).then(|| format!("; {} is due", Place::of(due).shown()));
-        if let Some(reason) = due.or_else(|| wrong.clone()) {
+        let other = (self.exact && says != due).then(|| format!("; {} is due", Place::of(due).shown()));
+        let wrong = other.or_else(|| if stands { self.wrong(slot.leads, says) } else { None });
+        if let Some(reason) = wrong {
             self.fault_at(from, here, &format!("says {}{reason}", Place::of(says).shown()));
-        } else if self.exact && slot.counted {
+            return None;
+        }
+        if self.exact && slot.counted {
             self.count(from, here, item, slot);
         }
         match slot.leads {
-            Leads::Item(k) if stands && wrong.is_none() => Some((k as usize, Place::of(says))),
+            Leads::Item(k) if stands && !self.unsure(from) => Some((k as usize, Place::of(says))),
             _ => None,
         }
     }
@@ -168,7 +163,12 @@ impl Follow<'_> {
     fn fault_at(&mut self, from: From, here: Place, text: &str) {
         let (pack, names) = (self.pack, self.names);
         let place = |p: Place| format!("byte {} of the file (block {}, start 0x{:X})", pack.byte(p), p.block, p.start);
-        self.fault(|| format!("{}: {} {text}", stops::member(from, names), place(here)));
+        self.walk.faults.add(|| format!("{}: {} {text}", stops::member(from, names), place(here)));
+    }
+
+    /// Whether packing may file it under another name: its own type, which has no definition here.
+    fn unsure(&self, from: From) -> bool {
+        !self.exact && from.row.is_some_and(|r| self.laid.trace.foreign.contains(&r))
     }
 
     /// What is wrong with where a pointer leads, by its block's name and length.
@@ -176,6 +176,9 @@ impl Follow<'_> {
         let to = Place::of(says);
         let Leads::Item(k) = leads else { return None };
         let target = &self.laid.items[k as usize];
+        if self.unsure(target.from) {
+            return None;
+        }
         let (name, names) = (self.laid.blocks[target.block as usize - 1].name, self.names);
         let Some((block, bytes)) = self.pack.block(to.block) else {
             return Some(format!(", which is not in the data; a block of name {} is due", names.shown(name)));

@@ -2,7 +2,8 @@
 use crate::definitions::{entries, members};
 use crate::json::List;
 use crate::library;
-use crate::sections::{blocks, walk, Section};
+
+use crate::sections::{self, blocks, walk, Section};
 use crate::view::{Shown, View};
 use serde::ser::SerializeStruct;
 use serde::{Serialize, Serializer};
@@ -96,7 +97,7 @@ impl Serialize for Json<'_> {
         let (view, file) = (self.0, self.0.file);
         let pack = view.reading.as_ref();
         let part = |s: Section| Part { name: Some(s.shown()), at: s.at, length: s.length };
-        let block = |(number, b): (usize, library::Block)| Block {
+        let block = |(number, b): (usize, sections::Block)| Block {
             number,
             name: b.name,
             word: view.names.word(b.name),

@@ -68,9 +68,7 @@ impl Report {
             say(&format!("{}: {bytes}, {blocks}, {definitions}, {remarks}", self.pack));
         }
     }
-}
 
-impl Report {
     /// A line for each note, as many as are read.
     fn say_notes(&self) {
         for n in self.notes.iter().take(MOST_NOTES) {

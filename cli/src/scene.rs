@@ -1,6 +1,7 @@
 //! A scene followed row by row, for messages. What a pack is, the library decides; the model says where and why.
 use crate::library::{self, Built, Lent, Remark};
 use crate::pack::work_lengths;
+use crate::sections::index_entries;
 use sandvurek_model::model::schema::Schema;
 use sandvurek_model::model::sheet::Sheet;
 use sandvurek_model::model::state::{self, State, GAVE_UP};
@@ -10,14 +11,16 @@ use sandvurek_model::model::{follow, Followed, Limits, Pace};
 /// Scenes that take more steps than this, and some for each byte, are not followed.
 const STEPS: u64 = 1 << 25;
 const STEPS_A_BYTE: u64 = 8;
+/// With more index entries than this nothing is followed: they would take much memory.
+const MOST_ENTRIES: usize = 1 << 19;
+/// The library compares so many numbers in the time of a step.
+const COMPARES_A_STEP: u64 = 64;
 
 /// A scene as far as it was followed.
 pub struct Scene {
     pub state: State,
     /// The file, or the number of its refusal.
     pub answer: Result<Vec<u8>, u32>,
-    /// How many index entries the schema file has.
-    pub entries: usize,
     steps: u64,
     most: u64,
 }
@@ -54,25 +57,27 @@ impl Scene {
     fn paced(sheet: &[u8], schema: &[u8], lent: Lent, free: bool) -> Result<Scene, Lost> {
         let bytes = (sheet.len() + schema.len()) as u64;
         let most = STEPS + STEPS_A_BYTE * bytes;
+        if index_entries(schema) > MOST_ENTRIES {
+            return Err(Lost::Long);
+        }
         let sheet = Sheet::read(sheet).map_err(Lost::of)?;
         // Definitions that do not overlap have fewer members and entries.
         let schema = Schema::read_most(schema, schema.len() / 8).map_err(Lost::of)?;
         let limits = Limits { work: lent.work as u64, out: lent.out as u64, records: lent.records as u64 };
         let Followed { state, answer } =
             follow(&sheet, &schema, &limits, &Pace { free, steps: most }).map_err(Lost::of)?;
-        let entries = schema.index_entries();
         match answer {
             Err(GAVE_UP) => Err(Lost::Long),
-            answer => Ok(Scene { steps: most - state.steps, state, answer, entries, most }),
+            answer => Ok(Scene { steps: most - state.steps, state, answer, most }),
         }
     }
 
     /// Whether the library packs it in a like number of steps: a round for 1,024 remarks, and in each the whole scene,
-    /// with the index looked through for each structure, some 32 entries in the time of a step.
+    /// with all that is looked for from the front.
     pub fn is_light(&self) -> bool {
         let rounds = 1 + self.state.remarks.len() as u64 / 1_024;
-        let looks = self.state.structures.uses.saturating_mul(self.entries as u64) / 32;
-        rounds * self.steps <= self.most && rounds.saturating_mul(looks) <= 8 * self.most
+        let steps = self.steps.saturating_add(self.state.compares / COMPARES_A_STEP);
+        rounds.saturating_mul(steps) <= self.most
     }
 
     /// The first rows behind the library's remarks, where they are the ones that were met.

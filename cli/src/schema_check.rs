@@ -82,7 +82,7 @@ pub fn carries(pack: &[u8], built: &[u8], whose: &str, laid: &State, names: &Nam
     }
     let needed: HashSet<(bool, u32)> = used.iter().map(|d| (d.is_enum, d.name)).collect();
     let mut others: Vec<&Listed> = carried.first.iter().filter(|(k, _)| !needed.contains(k)).map(|(_, d)| d).collect();
-    others.sort_by_key(|d| d.at);
+    others.sort_by_key(|d| (d.at, d.is_enum, d.name));
     for d in others {
         faults.add(|| format!("{} at byte {} is not used by the scene", shown(d), d.at));
     }
@@ -90,11 +90,11 @@ pub fn carries(pack: &[u8], built: &[u8], whose: &str, laid: &State, names: &Nam
 }
 
 /// Definitions that the scene needs and the pack lacks, as far as that shows without the schema file.
-pub fn lacks(laid: &State, faults: &mut Faults, names: &Names) {
-    let Some(lacking) = laid.trace.lacking else { return };
-    let place = stops::member(lacking.from, names);
-    faults.add(|| format!("structure {} has no definition in the pack ({place})", names.shown(lacking.name)));
-    faults.count += laid.trace.lacks - 1;
+pub fn lacks(laid: &State, names: &Names) -> Faults {
+    let first = laid.trace.lacking.map(|l| {
+        format!("structure {} has no definition in the pack ({})", names.shown(l.name), stops::member(l.from, names))
+    });
+    Faults { first, count: laid.trace.lacks }
 }
 
 /// How many structures and enums a file has.

@@ -1,6 +1,5 @@
 //! A file's sections and the definitions of its PSCH sections, with the place of what is wrong in them.
 use crate::bytes::{u16_at, u32_at};
-use crate::library::Block;
 
 #[derive(Clone, Copy)]
 pub struct Section {
@@ -65,16 +64,14 @@ impl Iterator for Walk<'_> {
     }
 }
 
-/// The sections before the first broken one, and what is wrong with that.
-pub fn sections(file: &[u8]) -> (Vec<Section>, Option<Fault>) {
-    let mut broken = None;
-    let found = walk(file).map_while(|s| s.map_err(|f| broken = Some(f)).ok()).collect();
-    (found, broken)
+/// The sections before the first broken one.
+pub fn sections(file: &[u8]) -> impl Iterator<Item = Section> + '_ {
+    walk(file).map_while(Result::ok)
 }
 
 /// The sections of a name, as far as all are sound.
 fn named<'a>(file: &'a [u8], name: &'static [u8; 4]) -> impl Iterator<Item = Section> + 'a {
-    walk(file).map_while(Result::ok).filter(move |s| s.is(name))
+    sections(file).filter(move |s| s.is(name))
 }
 
 /// A definition of an index: a structure or an enum, its numbers and its place in the file.
@@ -179,13 +176,21 @@ fn map_rows(s: &[u8]) -> Result<(usize, usize), usize> {
     }
 }
 
+/// A row of a block list: the block's name, its place in the data section, its length.
+#[derive(Clone, Copy)]
+pub struct Block {
+    pub name: u32,
+    pub place: u32,
+    pub length: u32,
+}
+
 /// The blocks of all PMAP sections in file order; the file is sound.
 pub fn blocks(file: &[u8]) -> impl Iterator<Item = Block> + '_ {
     named(file, b"PMAP").flat_map(|section| {
         let s = bytes(file, &section);
         let (count, rows) = map_rows(s).unwrap_or_default();
         let number = move |k: usize, field: usize| u32_at(s, rows + 16 * k + 4 * field);
-        (0..count).map(move |k| Block { found: 1, name: number(k, 0), place: number(k, 1), length: number(k, 3) })
+        (0..count).map(move |k| Block { name: number(k, 0), place: number(k, 1), length: number(k, 3) })
     })
 }
 

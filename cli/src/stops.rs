@@ -1,7 +1,7 @@
 //! Where a scene is refused while it is laid, in words.
 use crate::names::Names;
 use crate::scene::Scene;
-use crate::sheet::{Sheet, ARRAY, STR};
+use crate::sheet::{Sheet, STR};
 use crate::words::commas;
 use sandvurek_model::model::state::MAX_BLOCKS;
 use sandvurek_model::model::trace::{From, Why};
@@ -31,23 +31,14 @@ pub fn place(scene: &Scene, sheet: &[u8], names: &Names) -> Option<String> {
         Why::Block { name, number, start } => {
             format!("start 0x{start:X} would be needed in block {number}, of name {}", names.shown(name))
         }
-        Why::FloatText => return Some(text(stop.from, sheet).map_or(here.clone(), |t| format!("{here}: {t}"))),
+        Why::FloatText => text(stop.from, sheet)?,
     };
     Some(format!("{here}: {text}"))
 }
 
-/// The text that reads as a decimal number: the row's own, or that of an item.
+/// The text of a row.
 fn text(from: From, sheet: &[u8]) -> Option<String> {
     let sheet = Sheet::of(sheet).ok()?;
-    let shown = |r: usize| format!("\"{}\"", sheet.text(&sheet.rows[r]).escape_ascii());
-    let row = from.row?;
-    match sheet.rows[row].kind {
-        STR => Some(shown(row)),
-        ARRAY => {
-            let float = |r: &usize| sheet.rows[*r].kind == STR;
-            let found = sheet.children(&sheet.rows[row]).find(float)?;
-            Some(format!("row {found}, {}", shown(found)))
-        }
-        _ => None,
-    }
+    let row = sheet.rows.get(from.row?).filter(|r| r.kind == STR)?;
+    Some(format!("\"{}\"", sheet.text(row).escape_ascii()))
 }

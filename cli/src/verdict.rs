@@ -93,8 +93,8 @@ impl List {
     }
 
     /// The file is no pack: there are no more lines.
-    pub fn end(&mut self, why: String) {
-        self.add("sections end to end", Finding::Fail(why));
+    pub fn end(&mut self, check: &'static str, why: String) {
+        self.add(check, Finding::Fail(why));
         self.end = Some("the rest was not checked: the pack cannot be read");
     }
 

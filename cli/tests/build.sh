@@ -14,12 +14,12 @@ build() {
     (cd "$t/tree" && in_copy "$@") >"$t/out" 2>"$t/err" || got=$?
     ok "cli/build $*: status $got, expected $status" [ "$got" = "$status" ]
 }
-in_copy() {
-    words="CALLS=$t/calls ARCHIVE=$root/target/cli/libsandvurek.a RT=$stand_ins/rt CARGO=$stand_ins/cargo REGISTRY=$t/full"
-    while case ${1:-} in *=*) true ;; *) false ;; esac; do words="$words $1"; shift; done
-    # shellcheck disable=SC2086
-    env -u LIBRARY PATH="$stand_ins:$PATH" $words cli/build "$@"
-}
+in_copy() (
+    unset LIBRARY
+    export "CALLS=$t/calls" "ARCHIVE=$root/target/cli/libsandvurek.a" "RT=$stand_ins/rt" "CARGO=$stand_ins/cargo" "REGISTRY=$t/full"
+    while case ${1:-} in *=*) true ;; *) false ;; esac; do export "$1"; shift; done
+    PATH="$stand_ins:$PATH" cli/build "$@"
+)
 calls() { ok "$1 calls of $2" [ "$(grep -c "^$2" "$t/calls")" = "$1" ]; }
 
 # The library: a line for each crate, and nothing the second time.

@@ -38,11 +38,40 @@ done
 # Of many faults the first is told, and how many more there are.
 bounded 1 faults accept "$t/faults" --sheet "$t/many.sheet"
 has out "FAIL  pointers followed: row 2, structure 0x40, member 0x41: byte 64016 of the file (block 2, start 0x0) says block 4095, start 0xFFFFF; block 1, start 0x0 is due; and 15,999 more"
+# 2,000 members over a run of 65,535 pointers that lead nowhere; the sheet has two elements.
+bounded 1 nowhere accept "$t/nowhere" --sheet "$t/few.sheet"; has out "FAIL  pointers followed: row 1, structure 0x40, member 0x41: "
 # One run under 65,000 members is laid until the charge passes its cap.
 bounded 1 members accept "$t/members" --sheet "$t/many.sheet"; has out "refusal 9: the charge would pass its cap (row 1"
+# A structure that is refused for its depth takes no room.
+bounded 1 deep accept "$t/deep" --sheet "$t/deep.sheet"; has out "refusal 8: a structure would start at depth 33 (row 32"
 # What costs no charge is counted in steps, and remarks by their number.
 bounded 2 flags accept "$t/flags" --sheet "$t/numbers.sheet"
 has out "????  rebuild from the pack's own schema: the scene with the definitions of the pack takes too many steps to be laid"
 has out "flags: could not be checked, 3 of 5 checks could not be made"
 bounded 2 remarks accept "$t/remarks" --sheet "$t/types.sheet"; has out "has more than 65,536 different remarks"
 bounded 2 staggered accept "$t/staggered" --sheet "$t/many.sheet"
+# So is what the library would look for from the front.
+for shape in children:children lacking:one entries:entries noted:one; do
+    bounded 2 "${shape%:*}" accept "$t/${shape%:*}" --sheet "$t/${shape#*:}.sheet"; has out "takes too many steps to be laid"
+done
+bounded 1 behind accept "$t/behind" --sheet "$t/one.sheet"
+has out "????  rebuild from the pack's own schema: the scene with the definitions of the pack takes too many steps to be laid"
+
+# The work grows with the input and the output: counted in instructions, a shape of twice the size takes little more than
+# twice as many.
+counted() {
+    valgrind --tool=callgrind --callgrind-out-file=/dev/null "$S" "$@" 2>"$t/err" >"$t/out" || true
+    sed -n 's/.*Collected : \([0-9]*\).*/\1/p' "$t/err" | tr -d ,
+}
+grows() {
+    words=$1 small=$(counted $(echo "$1" | sed "s|@|$t/small|g")) large=$(counted $(echo "$1" | sed "s|@|$t/large|g"))
+    ok "$words: $small and $large instructions" [ "${small:-0}" -gt 0 -a "${large:-0}" -le $((small * 5 / 2)) ]
+}
+if command -v valgrind >/dev/null 2>&1; then
+    mkdir "$t/small" "$t/large"; "$tools/hostile" "$t/small" 100; "$tools/hostile" "$t/large" 50
+    for shape in maps sections shared staggered shared.schema enums.schema index.schema; do grows "read @/$shape"; done
+    grows "read @/maps --json"; grows "read @/shared --json"; grows "dump @/many.sheet"
+    grows "accept @/faults --sheet @/many.sheet"; grows "accept @/nowhere --sheet @/few.sheet"
+else
+    echo "cli/test: valgrind is missing: the work was not counted"
+fi

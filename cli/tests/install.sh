@@ -1,6 +1,10 @@
 # Installing, the man page and the library as others link it.
-got=0; cli/install >"$t/out" 2>"$t/err" || got=$?
-ok "status $got without PREFIX" [ "$got" = 2 ]; has err "usage: cli/install PREFIX"
+for words in "" --help "a b"; do
+    # shellcheck disable=SC2086
+    got=0; cli/install $words >"$t/out" 2>"$t/err" || got=$?
+    ok "status $got of cli/install $words" [ "$got" = 2 ]; has err "usage: cli/install PREFIX"
+done
+gone ./--help
 p=$t/p
 got=0; cli/install "$p" >"$t/out" 2>"$t/err" || got=$?
 ok "status $got of cli/install" [ "$got" = 0 ]; has err "sandvurek is in $p"

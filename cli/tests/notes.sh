@@ -32,6 +32,13 @@ member "0x20 0 0 0"; holds "9 0x41 0xFFFFFFFF 0xFFFFFFFF"; notes
 member "0x0B 7 0 0"; holds "9 0x41 1 2"; notes "row 1, $it: the number is cut to the member's width"
 member "0x0E 2 0 0"; holds "7 0x41 0x100"; notes "row 1, $it: the number is cut to the member's width"
 member "0x0F 1 0 0"; holds "17 0x41 0x10000"; notes "row 1, $it: the number is cut to the member's width"
+# A name's value is its entry's, and a text that stands for a hash is not cut.
+{ structure 0x40 24 "0x41 0x0E 2 0 0x70"; printf PSCH; words 32 1 0x70 20 $((1 << 24 | 1)) 0xCA2E9442 1; } >"$t/a.schema"
+holds "14 0x41 0xCA2E9442"; notes
+holds "14 0x41 0xCA2E9443"; notes "row 1, $it: the number is cut to the member's width"
+member "0x0B 7 0 0"; holds "15 0x41 0 11"; printf 99999999999 >>"$t/a.sheet"; notes
+# Flags may be Arrays: each number has four bytes.
+member "0x0F 0 0 0"; holds "19 0x41 2 2" "19 0 4 1" "7 0 1" "9 0 1 0"; notes "row 4, $it: the number is cut to the member's width"
 # A fraction: 1.5 in an integer's place, 1.0 there, 1.5 in a float's.
 member "5 0 0 0"; holds "10 0x41 0x3FC00000"; notes "row 1, $it: the number's fraction is dropped"
 holds "10 0x41 0x3F800000"; notes

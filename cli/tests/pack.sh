@@ -75,6 +75,13 @@ refuse 11 "$t/hurt" $hall; has err 'row 44, structure 0xC8FDDC97, member 0x9F5ED
 refuse 14 "$e/hall/hall.sheet" $hall --records 0; has err "there are 0 records; use --records with more"
 run 0 pack "$e/hall/hall.sheet" $hall --records 1 -o "$t/one.pso"; same "$t/one.pso" "$e/hall/hall.pso"
 
+# Of an Array it is the item that reads so.
+. cli/tests/scene.sh
+member "0x0F 0 0 0"; holds "19 0x41 2 2" "15 0 0 1" "19 0 4 2" "7 0 1" "15 0 1 3"; printf 21.5 >>"$t/a.sheet"
+refuse 11 "$t/a.sheet" --schema "$t/a.schema"; has err '(row 5, structure 0x40, member 0x41: "1.5")'
+member "8 0 0 0"; holds "19 0x41 2 2" "7 0 1" "15 0 0 1"; printf 2 >>"$t/a.sheet"
+refuse 11 "$t/a.sheet" --schema "$t/a.schema"; has err '(row 3, structure 0x40, member 0x41: "2")'
+
 # Large scenes: more blocks than pointers reach, a pack that is too long, more remarks than records.
 "$tools/large" "$t"
 refuse 10 "$t/blocks.sheet" --schema "$t/blocks.schema"

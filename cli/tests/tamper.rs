@@ -3,6 +3,7 @@
 //!   remove NAME       without the definitions of a name
 //!   double NAME       with the first definition of a name once more, at the end
 //!   add NAME          with a further definition, a copy of the first one under another name
+//!   more NAME         with the last member of a structure once more
 //!   gap BLOCK N       with N bytes more behind a block, which no block owns
 //!   word BYTE VALUE   with another number of four bytes at a place
 //!   cut N             without its last N bytes
@@ -59,6 +60,13 @@ fn psch(list: &[(u32, Vec<u8>)]) -> Vec<u8> {
     out
 }
 
+/// The last member of a structure once more.
+fn more(body: &mut Vec<u8>) {
+    let count = u16_at(body, 2) as u16 + 1;
+    body[2..4].copy_from_slice(&count.to_be_bytes());
+    body.extend_from_within(body.len() - 12..);
+}
+
 /// Bytes behind a block: those of later blocks move, and so do their places.
 fn gap(parts: &mut [Vec<u8>], block: usize, more: usize) {
     let row = 16 + 16 * (block - 1);
@@ -97,6 +105,7 @@ fn main() {
         ("remove", [name]) => list.retain(|d| d.0 != *name),
         ("double", [name]) => list.push(list.iter().find(|d| d.0 == *name).expect("a definition").clone()),
         ("add", [name]) => list.push((*name, list[0].1.clone())),
+        ("more", [name]) => more(&mut list.iter_mut().find(|d| d.0 == *name).expect("a definition").1),
         ("gap", [block, more]) => gap(&mut parts, *block as usize, *more as usize),
         ("word" | "cut", _) => {}
         _ => panic!("what is {what}?"),

@@ -64,8 +64,8 @@ impl Buffer {
     }
 
     /// Nothing is put where a pointer could be.
-    pub fn put_nothing(&mut self, at: usize, empty: Option<u32>) {
-        self.slots.extend(empty.map(|n| Slot { at: at as u32, leads: Leads::Nowhere(n), counted: false }));
+    pub fn put_nothing(&mut self, at: usize, empty: Option<u32>, counted: bool) {
+        self.slots.extend(empty.map(|n| Slot { at: at as u32, leads: Leads::Nowhere(n), counted }));
     }
 
     /// Another buffer in this one's bytes.

@@ -1,7 +1,7 @@
 //! Members that lead to no other structure: numbers, vectors, texts, enums, flags.
 use super::buffer::Buffer;
 use super::coerce::Fit;
-use super::sheet::{Row, ARRAY, F32, VEC2, VEC4};
+use super::sheet::{Row, ARRAY, F32, HASH, I64, U64, VEC2, VEC4};
 use super::trace::{From, Note};
 use super::write::{named_size, scalar_case, scalar_size, At, Writer};
 use crate::branch::{Case, Place, Way};
@@ -77,6 +77,31 @@ impl<'a> Writer<'a> {
         }
     }
 
+    /// A hash has four bytes; a text is hashed and not cut.
+    pub fn note_hash(&mut self, from: From) {
+        if matches!(self.row(from.row).kind, I64 | U64) {
+            self.note_number(4, from);
+        }
+    }
+
+    /// The number of an enum or of flags; the value of a name is its entry's. Flags may be Arrays in one another.
+    pub(super) fn note_named(&mut self, bytes: usize, from: From) {
+        let row = self.row(from.row);
+        match row.kind {
+            HASH => {}
+            ARRAY => self.sheet.children(&row).for_each(|r| self.note_named(4, from.at(r))),
+            _ => self.note_number(bytes, from),
+        }
+    }
+
+    /// What is written, with the row of the float's text where that is an item of an Array.
+    pub(super) fn from_float<T>(&self, fit: &Fit<T>, from: From, is: impl Fn(&Row) -> bool) -> From {
+        match (fit, from.row) {
+            (Fit::FloatText, Some(row)) => from.at(self.sheet.first_of(row, &is)),
+            _ => from,
+        }
+    }
+
     pub(super) fn scalar(&mut self, at: At, buf: &mut Buffer) -> Result<(), u32> {
         let ty = at.member.ty;
         let (case, _) = scalar_case(ty).unwrap();
@@ -89,7 +114,8 @@ impl<'a> Writer<'a> {
         }
         let row = self.row(at.value);
         let fit = self.scalar_bytes(ty, &row);
-        let Some(b) = self.settled(case, fit, at.from())? else { return self.wrong(at, case) };
+        let from = self.from_float(&fit, at.from(), |r| matches!(self.sheet.float_of(r), Fit::FloatText));
+        let Some(b) = self.settled(case, fit, from)? else { return self.wrong(at, case) };
         self.state.hits.hit(case, Way::Written);
         self.note_scalar(ty, at.from());
         buf.put(at.member.offset as usize, &b[..n]);
@@ -131,7 +157,7 @@ impl<'a> Writer<'a> {
         let row = self.seen(at, case, Place::Hash);
         let Some(h) = self.sheet.hash_of(&row) else { return self.wrong(at, case) };
         self.state.hits.hit(case, Way::Written);
-        self.note_number(4, at.from());
+        self.note_hash(at.from());
         buf.put(at.member.offset as usize, &h.to_be_bytes());
         Ok(())
     }
@@ -149,7 +175,7 @@ impl<'a> Writer<'a> {
     /// A text by pointer, with its length in subtype 3; an empty text is not laid.
     pub fn text_slot(&mut self, subtype: u8, t: &[u8], from: From, at: usize, buf: &mut Buffer) -> Result<(), u32> {
         if t.is_empty() {
-            buf.put_nothing(at, self.state.nothing(from));
+            buf.put_nothing(at, self.state.nothing(from), subtype == 3);
             return Ok(());
         }
         self.state.pay(16 + t.len() as u64 + 1, from)?;
@@ -164,19 +190,21 @@ impl<'a> Writer<'a> {
     /// An enum that the schema has is used.
     pub fn use_enum(&mut self, name: u32, row: Option<usize>) -> bool {
         let known = self.schema.enumeration(name).is_some();
+        self.state.compares += self.schema.weight();
         if known {
             self.state.enums.add(name, row);
         }
         known
     }
 
-    pub fn entries(&self, name: u32) -> &'a [(u32, u32)] {
+    pub fn entries(&mut self, name: u32) -> &'a [(u32, u32)] {
+        self.state.compares += self.schema.weight();
         self.schema.enumeration(name).map_or(&[], |e| &e.entries)
     }
 
     /// Entries are looked at for each name in the value.
     pub fn step_entries(&mut self, entries: &[(u32, u32)], value: Option<usize>) -> Result<(), u32> {
-        self.state.step(self.sheet.cost(value) * entries.len() as u64 / 16)
+        self.state.step(self.sheet.most_names(value) * entries.len() as u64 / 16)
     }
 
     fn named(&mut self, at: At, case: Case, name: u32, fit: Fit<u32>, buf: &mut Buffer) -> Result<(), u32> {
@@ -184,7 +212,7 @@ impl<'a> Writer<'a> {
         let known = self.use_enum(name, at.value);
         self.state.hits.hit(case, if known { Way::Known } else { Way::Unknown });
         let n = named_size(at.member.subtype);
-        self.note_number(n, at.from());
+        self.note_named(n, at.from());
         if !holds(x as i32 as i64 as u64, n) {
             self.state.trace.note(Note::Narrowed, at.from());
         }
@@ -227,6 +255,8 @@ impl<'a> Writer<'a> {
         let entries = self.entries(name);
         self.step_entries(entries, at.value)?;
         let fit = self.sheet.flags_bits(&row, entries);
-        self.named(at, case, name, fit, buf)
+        let is = |r: &Row| matches!(self.sheet.flags_bits(r, entries), Fit::FloatText);
+        let from = self.from_float(&fit, at.from(), is);
+        self.named(At { value: from.row, ..at }, case, name, fit, buf)
     }
 }

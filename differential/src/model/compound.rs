@@ -21,7 +21,7 @@ impl<'a> Writer<'a> {
             self.state.hits.hit(case, if empty_text { Way::Empty } else { Way::Null });
         }
         if m.subtype == 0 {
-            let Some(inner) = self.schema.structure(m.reference) else {
+            let Some(inner) = self.defined(m.reference) else {
                 self.state.hits.hit(case, Way::NoDef);
                 self.state.trace.lacks(m.reference, at.from());
                 return self.remark(at, 4, m.reference);
@@ -46,18 +46,19 @@ impl<'a> Writer<'a> {
     pub fn put(&mut self, buf: &mut Buffer, off: usize, laid: Option<Laid>, from: From) {
         match laid {
             Some(laid) => buf.put_pointer(off, laid),
-            None => buf.put_nothing(off, self.state.nothing(from)),
+            None => buf.put_nothing(off, self.state.nothing(from), false),
         }
     }
 
     /// A structure by pointer: the row's own type where the schema has it, else the reference; or remark 4.
     pub fn pointed(&mut self, at: At<'a>, case: Case, reference: u32, from: From) -> Result<Option<Laid>, u32> {
         let own_type = self.row(from.row).a;
-        let own = self.schema.structure(own_type).is_some();
+        let own = self.defined(own_type).is_some();
         let name = if own { own_type } else { reference };
-        let found = self.schema.structure(name);
+        let found = self.defined(name);
         if !own && (own_type != 0 || found.is_none()) {
             self.state.trace.lacks(if own_type != 0 { own_type } else { name }, from);
+            self.state.trace.foreign.extend(from.row);
         }
         let Some(def) = found else {
             self.state.hits.hit(case, Way::NoDef);
@@ -110,12 +111,12 @@ impl<'a> Writer<'a> {
         let n = items.len();
         if n == 0 {
             self.state.hits.hit(case, Way::Empty);
-            buf.put_nothing(off, self.state.nothing(at.from()));
+            buf.put_nothing(off, self.state.nothing(at.from()), true);
             return Ok(());
         }
         let Some((block, run)) = self.element_run(at, element, items)? else {
             self.state.hits.hit(case, Way::Dropped);
-            buf.put_nothing(off, self.state.nothing(at.from()));
+            buf.put_nothing(off, self.state.nothing(at.from()), true);
             return Ok(());
         };
         self.state.hits.hit(case, Way::Written);
@@ -165,14 +166,14 @@ impl<'a> Writer<'a> {
         let pairs = self.sheet.children(&row);
         if pairs.is_empty() {
             self.state.hits.hit(Case::Map, Way::Empty);
-            buf.put_nothing(off + 8, self.state.nothing(at.from()));
+            buf.put_nothing(off + 8, self.state.nothing(at.from()), true);
             return Ok(());
         }
         let name = self.reference_at(at, Case::Map, (m.reference & 0xFFFF) as usize);
-        let Some(pair) = self.schema.structure(name) else {
+        let Some(pair) = self.defined(name) else {
             self.state.hits.hit(Case::Map, Way::NoDef);
             self.state.trace.lacks(name, at.from());
-            buf.put_nothing(off + 8, self.state.nothing(at.from()));
+            buf.put_nothing(off + 8, self.state.nothing(at.from()), true);
             return self.remark(at, 7, name);
         };
         let n = pairs.len() / 2;

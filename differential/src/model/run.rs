@@ -1,5 +1,6 @@
 //! Runs: the elements of an array, the pairs of a map.
 use super::buffer::Buffer;
+use super::coerce::Fit;
 use super::schema::{Member, Structure};
 use super::sheet::{NULL, STRUCT};
 use super::trace::{From, Note};
@@ -73,7 +74,8 @@ impl<'a> Writer<'a> {
         for r in items {
             let from = self.element(at, r)?;
             let fit = self.scalar_bytes(ty, &self.sheet.rows[r]);
-            let Some(b) = self.settled(case, fit, from)? else { return self.drop_run(at, case, r) };
+            let culprit = self.from_float(&fit, from, |r| matches!(self.sheet.float_of(r), Fit::FloatText));
+            let Some(b) = self.settled(case, fit, culprit)? else { return self.drop_run(at, case, r) };
             self.note_scalar(ty, from);
             run.bytes.extend_from_slice(&b[..stride]);
         }
@@ -108,7 +110,7 @@ impl<'a> Writer<'a> {
     /// Structures in the run: what is neither Struct nor Null gives remark 9 and a default one.
     fn structures(&mut self, at: At<'a>, reference: u32, items: Range<usize>) -> Result<Run, u32> {
         let case = Case::ElStruct;
-        let Some(def) = self.schema.structure(reference) else {
+        let Some(def) = self.defined(reference) else {
             if !items.is_empty() {
                 self.state.trace.lacks(reference, at.from());
             }
@@ -194,7 +196,7 @@ impl<'a> Writer<'a> {
             let row = &self.sheet.rows[r];
             self.state.hits.value(Place::Hash, row.kind);
             let Some(h) = self.sheet.hash_of(row) else { return self.drop_run(at, case, r) };
-            self.note_number(4, from);
+            self.note_hash(from);
             run.bytes.extend_from_slice(&h.to_be_bytes());
         }
         self.state.hits.hit(case, Way::Written);
@@ -215,7 +217,7 @@ impl<'a> Writer<'a> {
             self.state.hits.value(Place::Enum, row.kind);
             let fit = self.sheet.enum_value(row, entries);
             let Some(x) = self.settled(case, fit, from)? else { return self.drop_run(at, case, r) };
-            self.note_number(4, from);
+            self.note_named(4, from);
             run.bytes.extend_from_slice(&x.to_be_bytes());
         }
         self.state.hits.hit(case, Way::Written);

@@ -132,6 +132,7 @@ fn member_at(s: &[u8], at: usize) -> Member {
 /// The definitions that building finds: a later one of a name wins.
 pub struct Schema {
     pub all: Definitions,
+    sections: usize,
     structures: HashMap<u32, usize>,
     enums: HashMap<u32, usize>,
 }
@@ -145,21 +146,27 @@ impl Schema {
     /// The same, given up where more members and entries would be read.
     pub fn read_most(file: &[u8], most: usize) -> Result<Schema, u32> {
         let mut all = Definitions { left: most, ..Definitions::default() };
-        let mut at = 0;
+        let (mut at, mut sections) = (0, 0);
         while let Some((name, section)) = next_section(file, at)? {
             if name == PSCH {
                 all.add(section)?;
             }
             at += section.len();
+            sections += 1;
         }
         let structures = all.structures.iter().enumerate().map(|(i, s)| (s.name, i)).collect();
         let enums = all.enums.iter().enumerate().map(|(i, e)| (e.name, i)).collect();
-        Ok(Schema { all, structures, enums })
+        Ok(Schema { all, sections, structures, enums })
     }
 
     /// The index entries of all PSCH sections.
     pub fn index_entries(&self) -> usize {
         self.all.structures.len() + self.all.enums.len()
+    }
+
+    /// How long it takes to look through the file for a name: an entry of an index is one, a section about four.
+    pub fn weight(&self) -> u64 {
+        (self.index_entries() + 4 * self.sections) as u64
     }
 
     pub fn structure(&self, name: u32) -> Option<&Structure> {

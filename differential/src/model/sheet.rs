@@ -193,6 +193,18 @@ impl<'a> Sheet<'a> {
         self.named.get(&(row, name)).copied()
     }
 
+    /// The row itself, or of an Array the first item of which a test holds.
+    pub fn first_of(&self, row: usize, is: &impl Fn(&Row) -> bool) -> usize {
+        let held = &self.rows[row];
+        let item = if held.kind == ARRAY { self.children(held).find(|r| is(&self.rows[*r])) } else { None };
+        item.map_or(row, |r| self.first_of(r, is))
+    }
+
+    /// At most so many names stand in a value: one for a row, one for two bytes of text.
+    pub fn most_names(&self, value: Option<usize>) -> u64 {
+        value.map_or(1, |r| 1 + self.weights[r] / 2)
+    }
+
     /// About how many steps it takes to read a value.
     pub fn cost(&self, value: Option<usize>) -> u64 {
         1 + value.filter(|r| self.rows[*r].kind != STRUCT).map_or(0, |r| self.weights[r] / 16)

@@ -8,7 +8,12 @@ pub const MAX_BLOCK: u64 = 0x10_0000;
 pub const MAX_BLOCKS: usize = 4_095;
 pub const MAX_START: u64 = 0xF_FFFF;
 /// So many pointers that are left zero are remembered.
-const MOST_EMPTY: usize = 1 << 18;
+const MOST_EMPTY: usize = 1 << 16;
+/// The library compares a remark with so many others, in the time of as many numbers each.
+const ROUND: usize = 1_024;
+const REMARK: u64 = 16;
+/// Where refusal 10 is passed over, a layout with more blocks is given up.
+const FREE_BLOCKS: usize = 65_536;
 
 /// In place of a refusal's number: the layout was given up, since it takes more steps than were allowed.
 pub const GAVE_UP: u32 = u32::MAX;
@@ -39,18 +44,16 @@ pub struct Item {
     pub from: From,
 }
 
-/// Names by first use, each with the row that used it first, and how many uses there were.
+/// Names by first use, each with the row that used it first.
 #[derive(Default)]
 pub struct Used {
     pub names: Vec<u32>,
     pub rows: Vec<Option<usize>>,
-    pub uses: u64,
     seen: HashSet<u32>,
 }
 
 impl Used {
     pub fn add(&mut self, name: u32, row: Option<usize>) {
-        self.uses += 1;
         if self.seen.insert(name) {
             self.names.push(name);
             self.rows.push(row);
@@ -65,11 +68,15 @@ pub struct State {
     /// Whether refusals 8, 10 and 11 are passed over, and how many steps are left.
     pub free: bool,
     pub steps: u64,
+    /// How many numbers the library compares one by one: names of rows, entries of the index, remarks.
+    pub compares: u64,
     pub remarks: Vec<Remark>,
     /// The first rows of each remark.
     pub rows: Vec<Vec<usize>>,
     noted: HashMap<Remark, usize>,
     pub blocks: Vec<Block>,
+    /// The blocks of a name, by their index.
+    of_name: HashMap<u32, Vec<usize>>,
     pub items: Vec<Item>,
     /// What was empty where a pointer could be.
     pub empty: Vec<From>,
@@ -87,10 +94,12 @@ impl State {
             records,
             free: false,
             steps: u64::MAX,
+            compares: 0,
             remarks: Vec::new(),
             rows: Vec::new(),
             noted: HashMap::new(),
             blocks: Vec::new(),
+            of_name: HashMap::new(),
             items: Vec::new(),
             empty: Vec::new(),
             structures: Used::default(),
@@ -123,6 +132,7 @@ impl State {
 
     /// Equal remarks stand once; 14: one more distinct remark than records.
     pub fn note(&mut self, remark: Remark, row: Option<usize>) -> Result<(), u32> {
+        self.compares += REMARK * self.remarks.len().min(ROUND) as u64;
         if let Some(k) = self.noted.get(&remark) {
             add_row(&mut self.rows[*k], row);
             self.hits.hit(Case::Noted, Way::Repeated);
@@ -150,14 +160,19 @@ impl State {
     /// Files an item in the first block of its name with room, else in a new last one; its pointer, or 10.
     pub fn lay(&mut self, name: u32, made: Buffer, from: From) -> Result<Laid, u32> {
         let need = made.len() as u64;
-        let room = self.blocks.iter().position(|b| b.name == name && b.length + need <= MAX_BLOCK);
+        let same = self.of_name.entry(name).or_default();
+        let room = same.iter().copied().find(|i| self.blocks[*i].length + need <= MAX_BLOCK);
+        let full = room.is_none() && !same.is_empty();
         let number = room.unwrap_or(self.blocks.len()) + 1;
         let start = room.map_or(0, |i| self.blocks[i].length);
         if number > MAX_BLOCKS || start > MAX_START {
             self.refuse(10, from, Why::Block { name, number, start })?;
         }
+        if number > FREE_BLOCKS {
+            return Err(GAVE_UP);
+        }
         self.hits.hit(Case::Item, if room.is_some() { Way::OldBlock } else { Way::NewBlock });
-        if room.is_none() && self.blocks.iter().any(|b| b.name == name) {
+        if full {
             self.hits.hit(Case::Item, Way::Full);
         }
         if need > MAX_BLOCK {
@@ -168,7 +183,10 @@ impl State {
         }
         match room {
             Some(i) => self.blocks[i].length += need,
-            None => self.blocks.push(Block { name, length: need }),
+            None => {
+                self.of_name.entry(name).or_default().push(self.blocks.len());
+                self.blocks.push(Block { name, length: need });
+            }
         }
         let pointer = (number as u32).wrapping_add((start as u32).wrapping_mul(4_096));
         let (bytes, slots) = (made.bytes.into(), made.slots.into());

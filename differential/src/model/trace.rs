@@ -1,7 +1,7 @@
 //! What a layout met on its way, by row, for messages. No answer depends on it.
 #![allow(dead_code)] // the command line reads what the comparison does not
 use super::sheet::Sheet;
-use std::collections::BTreeMap;
+use std::collections::{BTreeMap, HashSet};
 use std::ops::Range;
 
 /// So many rows of a remark are kept, the first of the sheet.
@@ -83,6 +83,8 @@ pub struct Trace {
     /// The first definition that is lacking, and how many times one is.
     pub lacking: Option<Lacking>,
     pub lacks: u64,
+    /// Rows whose own type is lacking: their pointers may lead to a block of that name.
+    pub foreign: HashSet<usize>,
     /// Rows whose value was looked at as a member.
     looked: Vec<bool>,
     /// Rows whose children were members of a structure, with the structure's name.

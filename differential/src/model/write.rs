@@ -107,6 +107,7 @@ impl<'a> Writer<'a> {
     pub fn structure(&mut self, def: &'a Structure, fields: &Fields, from: From, depth: u32) -> Result<Buffer, u32> {
         if depth > MAX_DEPTH {
             self.state.refuse(8, from, Why::Depth { structure: def.name })?;
+            self.state.pay(16 + def.size as u64, from)?;
             return Ok(Buffer::zeros(def.size as usize));
         }
         self.state.pay(16 + def.size as u64, from)?;
@@ -126,7 +127,10 @@ impl<'a> Writer<'a> {
     fn field(&mut self, fields: &Fields, name: u32) -> Option<usize> {
         let found = match fields {
             Fields::None => None,
-            Fields::Children(row) => self.sheet.named(*row, name),
+            Fields::Children(row) => {
+                self.state.compares += self.sheet.children(&self.sheet.rows[*row]).len() as u64;
+                self.sheet.named(*row, name)
+            }
             Fields::Pair(p) => p.iter().find(|f| f.0 == name).map(|f| f.1),
         };
         found.inspect(|row| self.state.trace.look(*row))
@@ -174,6 +178,12 @@ impl<'a> Writer<'a> {
     /// A value, Null where it is missing.
     pub(super) fn row(&self, value: Option<usize>) -> Row {
         value.map_or(MISSING, |r| self.sheet.rows[r])
+    }
+
+    /// A structure's definition; the library looks through the index.
+    pub(super) fn defined(&mut self, name: u32) -> Option<&'a Structure> {
+        self.state.compares += self.schema.weight();
+        self.schema.structure(name)
     }
 
     /// What coercion gave; none where the value is unfit. A float's text is refused.
