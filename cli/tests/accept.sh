@@ -118,6 +118,10 @@ hurt 325 1; by_name "FAIL  pointers followed: $entrance block 2, start 0x10; 16 
 hurt 327 0; by_name "FAIL  pointers followed: $entrance no block, which is not in the data; a block of name 0x26A06AAC is due"
 hurt 439 3; by_name "FAIL  pointers followed: byte 436 of the file, the root's block number, says 3, a block of name 0xC8FDDC97; 0x2FC89E62 is due"
 
+# A scene that cannot be followed to its end: pointers are not judged by what was laid so far.
+run 1 accept "$t/stopped.pso" --sheet "$t/stopped.sheet"
+has out "FAIL  pointers followed: building with the definitions of the pack is refused: refusal 11"
+
 # Schema against scene: each definition left behind, with the schema file ..
 left_out() { tampered remove "$1"; refused "schema against scene: $2 is used by the scene (row $3) and is not in the pack"; }
 left_out 0xC496E4A8 "structure 0xC496E4A8" 9
@@ -166,6 +170,7 @@ tampered double 0xC8FDDC97; wrong "schema against scene: structure 0xC8FDDC97 is
 hurt 672 2; wrong "schema against scene: refusal 6: a definition's top byte is neither 0 nor 1"; passes "sections end to end"
 hurt 598 1; wrong "schema against scene: refusal 5"
 tampered more 0xC496E4A8; refused "schema against scene: structure 0xC496E4A8 of the pack and of the schema file differ (row 9): 3 and 2 members"
+cat "$hall.pso" "$t/spare.schema" >"$t/hurt"; wrong "schema against scene: structure 0x1000 at byte 1656 is not used by the scene; and 49 more"
 cat "$hall.pso" "$e/case1/case1.schema" >"$t/hurt"; wrong "schema against scene: structure 0x40 at byte 1264 is not used by the scene"
 cp "$e/case1/case1.schema" "$t/other"; poke "$t/other" 36 5
 run 1 accept "$e/case1/case1.pso" --sheet "$e/case1/case1.sheet" --schema "$t/other"

@@ -1,8 +1,9 @@
 //! Writes scenes for `accept` into a directory: two (two blocks of one name), shared (members that share bytes), none (an
-//! array without items), needless (what needs no definition of its own).
+//! array without items), needless (what needs no definition of its own),
+//! stopped (refused with 11, then with 9); and spare.schema.
 #[path = "pso.rs"]
 mod pso;
-use pso::{row, schema, structure, words};
+use pso::{row, schema, section, structure, words};
 use std::{env, fs, path::Path};
 
 /// Structure 0x40 with an array of pointers to two structures 0x50, so long that each has a block of its own.
@@ -49,10 +50,31 @@ fn needless() -> (Vec<u8>, Vec<u8>) {
     )
 }
 
+/// A text that reads as a decimal number (11), and behind it more than the charge allows (9); with a pack of its root.
+fn stopped() -> (Vec<u8>, Vec<u8>) {
+    let list = [row(21, 0, [0x40, 1, 2, 0]), row(15, 0x41, [0, 3, 0, 0]), row(19, 0x42, [3, 9, 0, 0])].concat();
+    let items = row(21, 0, [0x50, 12, 0, 0]).repeat(9);
+    let members = [[0x41, 0x0700_0000, 0], [0x100, 0x0C03_0000, 0x50], [0x42, 0x0D00_0000, 1]];
+    let psch = schema(&[(0x40, 0), (0x50, 1)], &[structure(16, &members), structure(600_000, &[])]);
+    let pmap = section(b"PMAP", &words(&[1, 0x1_7070, 0x40, 16, 0, 16]));
+    let pack = [section(b"PSIN", &[0; 24]), pmap, psch].concat();
+    ([words(&[12]), list, items, b"1.5".to_vec()].concat(), pack)
+}
+
+/// Fifty names for one structure.
+fn spare() -> Vec<u8> {
+    schema(&(0..50).map(|n| (0x1031 - n, 0)).collect::<Vec<_>>(), &[structure(4, &[])])
+}
+
 fn main() {
     let directory = env::args().nth(1).expect("a directory");
+    let write = |name: &str, bytes: Vec<u8>| fs::write(Path::new(&directory).join(name), bytes).expect("a file");
     for (name, (sheet, schema)) in [("two", two()), ("shared", shared()), ("none", none()), ("needless", needless())] {
-        let path = |end: &str| Path::new(&directory).join(format!("{name}.{end}"));
-        fs::write(path("sheet"), sheet).and_then(|()| fs::write(path("schema"), schema)).expect("a file");
+        write(&format!("{name}.sheet"), sheet);
+        write(&format!("{name}.schema"), schema);
     }
+    let (sheet, pack) = stopped();
+    write("stopped.sheet", sheet);
+    write("stopped.pso", pack);
+    write("spare.schema", spare());
 }
