@@ -1,4 +1,6 @@
 // The work area of the packer: block rows, remark rows, used names, laid items and the stack, each a segment with zeros behind it.
+#![tactic(auto)]
+
 ghost use Rattle.std.specs.Prelude.{◌≡◌, [], ◌∷◌, ◌+◌, ◌≤◌, length};
 ghost use Rattle.numbers.specs.Words.{words, over};
 

@@ -1,5 +1,7 @@
 // What is stored in a member's place or in an element of a run, from a row alone; and what a member that leads to no structure is,
 // decided before anything is written.
+#![tactic(auto)]
+
 ghost use Rattle.std.specs.Prelude.{◌≡◌, ◌+◌, ◌*◌, ◌≤◌, length, take, [], ◌∷◌};
 ghost use Rattle.numbers.specs.Words.{words, over};
 ghost use Rattle.cells.specs.Cells.{cell_bytes, cell_size, Sane, Puts, int_fit, bits_fit, vec_fit, text_fit};

@@ -1,6 +1,8 @@
 // Replays recorded answers of the reference: standard input has the entries of an enum, then rows, each its length, its answers,
 // and the sheet that they were given for (differential/leaves/run record). A line for each coercion says how many answers agree; the last
 // line says it of published hash values.
+#![tactic(auto)]
+
 ghost use Rattle.std.specs.Prelude.{◌≤◌, ◌<◌};
 
 use coerce::vector::{Vector, vec_of};

@@ -1,11 +1,4 @@
 // Look-up by name: of the definitions of a kind and a name, the one that counts when building is the last.
-use numbers::words::is_name;
-use numbers::words::left;
-use numbers::words::read_u8;
-use numbers::words::read_u32;
-use numbers::words::u32_at;
-use schema::cursor::Cursor;
-use schema::cursor::Step;
 ghost use Rattle.std.specs.Prelude.{◌≡◌, ◌+◌, ◌^◌, ◌≤◌, ◌<◌, length, take, drop};
 ghost use Rattle.numbers.specs.Words.{read_at};
 ghost use Rattle.numbers.specs.Result.{ok, given, is_some, or_value, map_option};
@@ -13,6 +6,9 @@ ghost use Rattle.schema.specs.Defs.{Schema, winning};
 ghost use Rattle.schema.specs.Psch.{schema_of};
 ghost use Rattle.schema.specs.Index.{index_count, leads_to, places_in, section_places, last_of, last_place};
 ghost use Rattle.definitions.specs.Answers.{found_is, struct_found, enum_found};
+
+use numbers::words::{is_name, left, read_u8, read_u32, u32_at};
+use schema::cursor::{Cursor, Step};
 
 // A place in the file, or none.
 #[derive(Drop)]
@@ -130,7 +126,7 @@ fn last(file: &[u8], kind: u8, name: u32) -> Found
 // The place in the file of the structure that a name stands for when building.
 pub fn find_structure(file: &[u8], name: u32) -> Found
     ensures result_value { found_is result ≡ last_place file.now 0 name }
-    ensures name_value { (S : Schema) → schema_of file.now ≡ ok S → (winning S).#[cycle(name)] struct name ≡ struct_found file.now name result }
+    ensures name_value { (S : Schema) → schema_of file.now ≡ ok S → (winning S).struct name ≡ struct_found file.now name result }
 {
     last(file, 0, name)
 }
@@ -138,7 +134,7 @@ pub fn find_structure(file: &[u8], name: u32) -> Found
 // The place in the file of the enum that a name stands for when building.
 pub fn find_enum(file: &[u8], name: u32) -> Found
     ensures result_value { found_is result ≡ last_place file.now 1 name }
-    ensures name_value { (S : Schema) → schema_of file.now ≡ ok S → (winning S).#[cycle(name)] enum name ≡ enum_found file.now name result }
+    ensures name_value { (S : Schema) → schema_of file.now ≡ ok S → (winning S).enum name ≡ enum_found file.now name result }
 {
     last(file, 1, name)
 }

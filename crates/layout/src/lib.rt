@@ -1,4 +1,5 @@
 // The definitions of this crate stand in specs/, their laws in proofs/.
+#![tactic(auto)]
 
 // A remark: what is wrong with a member of a structure.
 #[repr(C)]

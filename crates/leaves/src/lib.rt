@@ -1,5 +1,7 @@
 // The leaves for a caller in Rust or C, for comparisons by running: each has its leaf's contract, and takes any input.
 // A code is 0 where there is a value, 1 where there is none, and 11 at a float's text.
+#![tactic(auto)]
+
 ghost use Rattle.std.specs.Prelude.{◌≡◌, ◌^◌, pos, ◌-ℤ◌, ◌*ℤ◌, length};
 ghost use Rattle.conversions.specs.Single.{value};
 ghost use Rattle.conversions.specs.Round.{Rounded, f32_of};

@@ -1,4 +1,6 @@
 // Members that lead to no structure: scalars, texts, hashes, enums and flags; and look-up, remarks, the charge and the dropping of a run, which all writers share.
+#![tactic(auto)]
+
 ghost use Rattle.std.specs.Prelude.{◌≡◌, ◌≤◌, length};
 ghost use Rattle.numbers.specs.Result.{ok};
 ghost use Rattle.schema.specs.Defs.{Schema, winning};

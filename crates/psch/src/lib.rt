@@ -1,4 +1,6 @@
 // PSCH: the used definitions, copied from the schema file.
+#![tactic(auto)]
+
 ghost use Rattle.std.specs.Prelude.{◌≡◌, [], ◌∷◌, ◌+◌, ◌*◌, ◌^◌, ◌≤◌, ◌<◌, length};
 ghost use Rattle.numbers.specs.Words.{words, over};
 ghost use Rattle.numbers.specs.Result.{Every};

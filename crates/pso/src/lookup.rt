@@ -1,13 +1,4 @@
 // The definitions of a file, by name: the first of a name counts.
-use definitions::lookup::Found;
-use definitions::lookup::index_count;
-use definitions::lookup::leads_to;
-use definitions::members::entry_count;
-use definitions::members::read_head;
-use numbers::words::is_name;
-use numbers::words::read_u32;
-use schema::cursor::Cursor;
-use schema::cursor::Step;
 ghost use Rattle.std.specs.Prelude.{◌≡◌, ◌+◌, ◌^◌, ◌≤◌, ◌<◌, length, take, drop};
 ghost use Rattle.numbers.specs.Words.{read_at};
 ghost use Rattle.numbers.specs.Result.{ok, map_option};
@@ -16,6 +7,11 @@ ghost use Rattle.schema.specs.Index.{places_in, section_places, first_of, first_
 ghost use Rattle.definitions.specs.Answers.{found_is};
 ghost use Rattle.pso.specs.Reader.{Pso, parse_pso};
 ghost use Rattle.pso.specs.Answers.{structure_at, enumeration_at, struct_defined, enum_defined};
+
+use definitions::lookup::{Found, index_count, leads_to};
+use definitions::members::{entry_count, read_head};
+use numbers::words::{is_name, read_u32};
+use schema::cursor::{Cursor, Step};
 
 // The first definition of a kind and a name in a PSCH section that starts at `from` of the file.
 fn first_in(p: &[u8], from: usize, kind: u8, name: u32) -> Found
@@ -91,7 +87,7 @@ pub enum Definition {
 // The structure that a name stands for in a file.
 pub fn structure(file: &[u8], name: u32) -> Definition
     ensures value { result ≡ structure_at file.now (first_place file.now 0 name) }
-    ensures name_value { (p : Pso) → parse_pso file.now ≡ ok p → (leading p.schema).#[cycle(name)] struct name ≡ struct_defined file.now name result }
+    ensures name_value { (p : Pso) → parse_pso file.now ≡ ok p → (leading p.schema).struct name ≡ struct_defined file.now name result }
 {
     let f = first(file, 0, name);
     match f {
@@ -111,7 +107,7 @@ pub fn structure(file: &[u8], name: u32) -> Definition
 // The enum that a name stands for in a file.
 pub fn enumeration(file: &[u8], name: u32) -> Definition
     ensures value { result ≡ enumeration_at file.now (first_place file.now 1 name) }
-    ensures name_value { (p : Pso) → parse_pso file.now ≡ ok p → (leading p.schema).#[cycle(name)] enum name ≡ enum_defined file.now name result }
+    ensures name_value { (p : Pso) → parse_pso file.now ≡ ok p → (leading p.schema).enum name ≡ enum_defined file.now name result }
 {
     let f = first(file, 1, name);
     match f {

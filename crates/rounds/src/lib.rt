@@ -1,4 +1,6 @@
 // One round of the layout: what is judged before the first, a run, and where the merge of its rows into the list of remarks stands.
+#![tactic(auto)]
+
 use area::{Progress, Round};
 
 pub mod merge;

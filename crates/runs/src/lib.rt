@@ -1,4 +1,6 @@
 // Runs whose elements lead to no structure: they grow on top of the stack.
+#![tactic(auto)]
+
 ghost use Rattle.std.specs.Prelude.{◌≡◌, ◌+◌, ◌*◌, ◌≤◌, length};
 ghost use Rattle.numbers.specs.Words.{Bytes};
 ghost use Rattle.numbers.specs.Result.{ok};

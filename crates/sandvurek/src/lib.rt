@@ -1,4 +1,6 @@
 // The library's functions for C and Rust. A slice passes as pointer, then length; every call takes any bytes.
+#![tactic(auto)]
+
 ghost use Rattle.std.specs.Prelude.{◌≡◌, length};
 ghost use Rattle.numbers.specs.Result.{ok};
 ghost use Rattle.schema.specs.Defs.{leading};

@@ -1,4 +1,6 @@
 // The sheet's layout: refusals 1, 2 and 3.
+#![tactic(auto)]
+
 ghost use Rattle.std.specs.Prelude.{◌≡◌, cond, ◌+◌, ◌≤◌, ◌<◌, ◌^◌, eqb, ltb};
 ghost use Rattle.value.specs.Rows;
 ghost use Rattle.sheet.specs.Layout;

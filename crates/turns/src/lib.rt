@@ -1,4 +1,6 @@
 // The driver's steps: the first round; a turn, which makes a record of the record that it is given; the end.
+#![tactic(auto)]
+
 ghost use Rattle.std.specs.Prelude.{length};
 ghost use Rattle.rounds.specs.Merge.{Fit, Closing};
 ghost use Rattle.turns.specs.Turns.{Passes, Ready, Steps, Begins, Ends};

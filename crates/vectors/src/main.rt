@@ -2,6 +2,8 @@
 // how they lie), sheets and schemas with what `build_pso` gives and files with what `parse_pso` gives, as the reference has it, and
 // for refusals outside its domain the model of differential/. A line for each says what came out, and whether it is the recorded one
 // to the last byte: file, remarks, the rest of the lent areas.
+#![tactic(auto)]
+
 ghost use Rattle.std.specs.Prelude.{◌≡◌, ◌≤◌, ◌<◌, length, take};
 ghost use Rattle.layout.specs.Build.{build_pso};
 ghost use Rattle.turns.specs.Answers.{leaves};

@@ -44,7 +44,7 @@ pub enum Pointed {
 }
 
 // A structure, with `left` depths left: its bytes grow on top of the stack.
-#[cycle(pairs_write_map_point_to_element_run_pointer_run_struct_run_write_array_write_embedded_write_inline_write_laid_write_member_write_pointed_write_struct_write_structure)]
+#[cycle(write)]
 pub fn write_struct(
     sheet: &[u8],
     schema: &[u8],
@@ -92,7 +92,7 @@ pub fn write_struct(
 }
 
 // A member, by its type byte.
-#[cycle(pairs_write_map_point_to_element_run_pointer_run_struct_run_write_array_write_embedded_write_inline_write_laid_write_member_write_pointed_write_struct_write_structure)]
+#[cycle(write)]
 fn write_member(
     sheet: &[u8],
     schema: &[u8],
@@ -119,7 +119,7 @@ fn write_member(
 }
 
 // A structure: subtype 0 is inline, any other by pointer.
-#[cycle(pairs_write_map_point_to_element_run_pointer_run_struct_run_write_array_write_embedded_write_inline_write_laid_write_member_write_pointed_write_struct_write_structure)]
+#[cycle(write)]
 fn write_structure(
     sheet: &[u8],
     schema: &[u8],
@@ -146,7 +146,7 @@ fn write_structure(
 }
 
 // A structure inline: it is written on top of the stack and moved into its parent.
-#[cycle(pairs_write_map_point_to_element_run_pointer_run_struct_run_write_array_write_embedded_write_inline_write_laid_write_member_write_pointed_write_struct_write_structure)]
+#[cycle(write)]
 fn write_inline(
     sheet: &[u8],
     schema: &[u8],
@@ -187,7 +187,7 @@ fn write_inline(
 }
 
 // A structure by pointer; without a Struct nothing is written.
-#[cycle(pairs_write_map_point_to_element_run_pointer_run_struct_run_write_array_write_embedded_write_inline_write_laid_write_member_write_pointed_write_struct_write_structure)]
+#[cycle(write)]
 fn write_pointed(
     sheet: &[u8],
     schema: &[u8],
@@ -229,7 +229,7 @@ fn write_pointed(
 }
 
 // The structure of row r, filed; its pointer.
-#[cycle(pairs_write_map_point_to_element_run_pointer_run_struct_run_write_array_write_embedded_write_inline_write_laid_write_member_write_pointed_write_struct_write_structure)]
+#[cycle(write)]
 fn point_to(
     sheet: &[u8],
     schema: &[u8],
@@ -268,7 +268,7 @@ fn point_to(
 }
 
 // An array, by pointer or embedded.
-#[cycle(pairs_write_map_point_to_element_run_pointer_run_struct_run_write_array_write_embedded_write_inline_write_laid_write_member_write_pointed_write_struct_write_structure)]
+#[cycle(write)]
 fn write_array(
     sheet: &[u8],
     schema: &[u8],
@@ -303,7 +303,7 @@ fn write_array(
 }
 
 // An array by pointer; without items it ends here.
-#[cycle(pairs_write_map_point_to_element_run_pointer_run_struct_run_write_array_write_embedded_write_inline_write_laid_write_member_write_pointed_write_struct_write_structure)]
+#[cycle(write)]
 fn write_laid(
     sheet: &[u8],
     schema: &[u8],
@@ -340,7 +340,7 @@ fn write_laid(
 }
 
 // An embedded array: first the run with all that it lays, remarks and uses, then does it fit.
-#[cycle(pairs_write_map_point_to_element_run_pointer_run_struct_run_write_array_write_embedded_write_inline_write_laid_write_member_write_pointed_write_struct_write_structure)]
+#[cycle(write)]
 fn write_embedded(
     sheet: &[u8],
     schema: &[u8],

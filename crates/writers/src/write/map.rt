@@ -22,7 +22,7 @@ use runs::Ran;
 use value::{Found, value_row};
 
 // A map: an empty one still holds 0x01000000.
-#[cycle(pairs_write_map_point_to_element_run_pointer_run_struct_run_write_array_write_embedded_write_inline_write_laid_write_member_write_pointed_write_struct_write_structure)]
+#[cycle(write)]
 pub fn write_map(
     sheet: &[u8],
     schema: &[u8],
@@ -60,7 +60,7 @@ pub fn write_map(
 }
 
 // A map's pairs, at least one.
-#[cycle(pairs_write_map_point_to_element_run_pointer_run_struct_run_write_array_write_embedded_write_inline_write_laid_write_member_write_pointed_write_struct_write_structure)]
+#[cycle(write)]
 fn pairs(
     sheet: &[u8],
     schema: &[u8],

@@ -20,7 +20,7 @@ use runs::{Ran, plain_element_run, run_cost, stop_run};
 use value::read_row;
 
 // The n rows from `first` on as elements that x describes.
-#[cycle(pairs_write_map_point_to_element_run_pointer_run_struct_run_write_array_write_embedded_write_inline_write_laid_write_member_write_pointed_write_struct_write_structure)]
+#[cycle(write)]
 pub fn element_run(
     sheet: &[u8],
     schema: &[u8],
@@ -65,7 +65,7 @@ pub fn element_run(
 }
 
 // Structures by pointer: 8 bytes for each row; what is no Struct leaves them zero.
-#[cycle(pairs_write_map_point_to_element_run_pointer_run_struct_run_write_array_write_embedded_write_inline_write_laid_write_member_write_pointed_write_struct_write_structure)]
+#[cycle(write)]
 fn pointer_run(
     sheet: &[u8],
     schema: &[u8],
@@ -117,7 +117,7 @@ fn pointer_run(
 }
 
 // A run of structures of the definition i, or of a map's pairs.
-#[cycle(pairs_write_map_point_to_element_run_pointer_run_struct_run_write_array_write_embedded_write_inline_write_laid_write_member_write_pointed_write_struct_write_structure)]
+#[cycle(write)]
 pub fn struct_run(
     sheet: &[u8],
     schema: &[u8],

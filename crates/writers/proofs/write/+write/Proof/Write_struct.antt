@@ -13,8 +13,8 @@ use Prim.Native.Nat.{◌-◌}
 use borrow.Author.Rules.{rules}
 use Prim.Native.Nat.{ℕ}
 use Rattle.writers.proofs.write.write_struct.Reads as write-struct
-use Rattle.writers.proofs.write.+pairs_write_map_point_to_element_run_pointer_run_struct_run_write_array_write_embedded_write_inline_write_laid_write_member_write_pointed_write_struct_write_structure.Lts-write_struct as write-struct-lts
-use Rattle.writers.proofs.write.+pairs_write_map_point_to_element_run_pointer_run_struct_run_write_array_write_embedded_write_inline_write_laid_write_member_write_pointed_write_struct_write_structure.Proof.Base.{write_struct_at, write_struct_calls}
+use Rattle.writers.proofs.write.+write.Lts-write_struct as write-struct-lts
+use Rattle.writers.proofs.write.+write.Proof.Base.{write_struct_at, write_struct_calls}
 
 abbrev write_struct_inv_loop : write-struct-lts.invariant-loop
 write_struct_inv_loop sheet schema work₀ round left d from size q₀ n k₀ work q k = (length work ≡ length work₀) × (n ≡ d.count) × (size ≡ d.size) × Writing schema sheet round (length work₀) (left - 1) d (fields_is sheet from) q₀ work₀ q work k

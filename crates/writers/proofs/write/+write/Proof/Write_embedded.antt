@@ -3,8 +3,8 @@ use Rattle.writers.proofs.Fillings.{embedded_refused, embedded_dropped, embedded
 use borrow.Author.Rules.{rules}
 use Prim.Native.Nat.{ℕ}
 use Rattle.writers.proofs.write.write_embedded.Reads as write-embedded
-use Rattle.writers.proofs.write.+pairs_write_map_point_to_element_run_pointer_run_struct_run_write_array_write_embedded_write_inline_write_laid_write_member_write_pointed_write_struct_write_structure.Lts-write_embedded as write-embedded-lts
-use Rattle.writers.proofs.write.+pairs_write_map_point_to_element_run_pointer_run_struct_run_write_array_write_embedded_write_inline_write_laid_write_member_write_pointed_write_struct_write_structure.Proof.Base.{write_embedded_at, write_embedded_calls}
+use Rattle.writers.proofs.write.+write.Lts-write_embedded as write-embedded-lts
+use Rattle.writers.proofs.write.+write.Proof.Base.{write_embedded_at, write_embedded_calls}
 
 write_embedded_returns : (t : ℕ) → write-embedded-lts.Need-returns (write_embedded_calls t) (write_embedded_at t) write-embedded.Post
 write_embedded_returns t c = embedded_refused c.before.before.before.before.before.before.before.before.before.before.args.sheet.now c.before.before.before.before.before.before.before.before.before.before.args.schema.now c.before.before.before.before.before.before.before.before.before.before.args.round c.before.before.before.before.before.before.before.before.before.before.args.left c.before.before.before.before.before.before.before.before.before.before.args.p c.before.before.before.before.before.before.before.before.before.before.args.work.now c.before.before.before.before.before.before.before.before.before.before.args.d c.before.before.before.before.before.before.before.before.before.before.args.m c.before.before.before.before.before.before.before.before.before.before.requires.1.0.0 c.before.before.before.before.before.before.before.before.before.before.requires.1.0.1 c.before.before.before.before.before.before.before.before.before.before.requires.1.1 c.before.before.before.before.before.before.before.before.before.before.args.x c.before.before.before.before.before.before.before.before.before.before.args.first c.before.before.before.before.before.before.before.before.before.before.args.n _ _ c.before.before.before.before.before.element-run.ensures _ _ c.before.k.given.1

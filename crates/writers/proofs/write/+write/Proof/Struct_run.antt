@@ -12,8 +12,8 @@ use Prim.Native.Nat.{◌-◌}
 use borrow.Author.Rules.{rules}
 use Prim.Native.Nat.{ℕ}
 use Rattle.writers.proofs.write.run.struct_run.Reads as struct-run
-use Rattle.writers.proofs.write.+pairs_write_map_point_to_element_run_pointer_run_struct_run_write_array_write_embedded_write_inline_write_laid_write_member_write_pointed_write_struct_write_structure.Lts-run-struct_run as struct-run-lts
-use Rattle.writers.proofs.write.+pairs_write_map_point_to_element_run_pointer_run_struct_run_write_array_write_embedded_write_inline_write_laid_write_member_write_pointed_write_struct_write_structure.Proof.Base.{struct_run_at, struct_run_calls}
+use Rattle.writers.proofs.write.+write.Lts-run-struct_run as struct-run-lts
+use Rattle.writers.proofs.write.+write.Proof.Base.{struct_run_at, struct_run_calls}
 
 abbrev struct_run_inv_loop : struct-run-lts.invariant-loop
 struct_run_inv_loop sheet schema work₀ round left d m i first n pairs q₀ k₀ work q k = (length work ≡ length work₀) × (k ≤ n) × (q₀.seen + 65536 * 16 ≤ 65536 * q₀.charge) × StructRunning schema sheet round (length work₀) left d m i pairs first n q₀ work₀ q work k

@@ -3,8 +3,8 @@ use Rattle.writers.proofs.Fillings.{array_none, array_wrong, array_pointed, arra
 use borrow.Author.Rules.{rules}
 use Prim.Native.Nat.{ℕ}
 use Rattle.writers.proofs.write.write_array.Reads as write-array
-use Rattle.writers.proofs.write.+pairs_write_map_point_to_element_run_pointer_run_struct_run_write_array_write_embedded_write_inline_write_laid_write_member_write_pointed_write_struct_write_structure.Lts-write_array as write-array-lts
-use Rattle.writers.proofs.write.+pairs_write_map_point_to_element_run_pointer_run_struct_run_write_array_write_embedded_write_inline_write_laid_write_member_write_pointed_write_struct_write_structure.Proof.Base.{write_array_at, write_array_calls}
+use Rattle.writers.proofs.write.+write.Lts-write_array as write-array-lts
+use Rattle.writers.proofs.write.+write.Proof.Base.{write_array_at, write_array_calls}
 
 write_array_wrong_requires : (t : ℕ) → write-array-lts.Need-wrong-requires (write_array_calls t) (write_array_at t) write-array.Post
 write_array_wrong_requires t c κs = search rules

@@ -5,8 +5,8 @@ use Rattle.writers.proofs.Pairing.{pairs_missing, pairs_refused, pairs_dropped, 
 use borrow.Author.Rules.{rules}
 use Prim.Native.Nat.{ℕ}
 use Rattle.writers.proofs.write.map.pairs.Reads as pairs
-use Rattle.writers.proofs.write.+pairs_write_map_point_to_element_run_pointer_run_struct_run_write_array_write_embedded_write_inline_write_laid_write_member_write_pointed_write_struct_write_structure.Lts-map-pairs as pairs-lts
-use Rattle.writers.proofs.write.+pairs_write_map_point_to_element_run_pointer_run_struct_run_write_array_write_embedded_write_inline_write_laid_write_member_write_pointed_write_struct_write_structure.Proof.Base.{pairs_at, pairs_calls}
+use Rattle.writers.proofs.write.+write.Lts-map-pairs as pairs-lts
+use Rattle.writers.proofs.write.+write.Proof.Base.{pairs_at, pairs_calls}
 
 pairs_reference_at_requires : (t : ℕ) → pairs-lts.Need-reference-at-requires (pairs_calls t) (pairs_at t) pairs.Post
 pairs_reference_at_requires t c κs = search rules

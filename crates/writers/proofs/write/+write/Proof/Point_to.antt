@@ -5,8 +5,8 @@ use mathlib.Core.Path.{refl}
 use borrow.Author.Rules.{rules}
 use Prim.Native.Nat.{ℕ}
 use Rattle.writers.proofs.write.point_to.Reads as point-to
-use Rattle.writers.proofs.write.+pairs_write_map_point_to_element_run_pointer_run_struct_run_write_array_write_embedded_write_inline_write_laid_write_member_write_pointed_write_struct_write_structure.Lts-point_to as point-to-lts
-use Rattle.writers.proofs.write.+pairs_write_map_point_to_element_run_pointer_run_struct_run_write_array_write_embedded_write_inline_write_laid_write_member_write_pointed_write_struct_write_structure.Proof.Base.{point_to_at, point_to_calls}
+use Rattle.writers.proofs.write.+write.Lts-point_to as point-to-lts
+use Rattle.writers.proofs.write.+write.Proof.Base.{point_to_at, point_to_calls}
 
 point_to_returns : (t : ℕ) → point-to-lts.Need-returns (point_to_calls t) (point_to_at t) point-to.Post
 point_to_returns t c = point_missing _ _ _ _ c.before.before.before.before.before.before.before.before.before.before.before.args.sheet.now c.before.before.before.before.before.before.before.before.before.before.before.args.schema.now c.before.before.before.before.before.before.before.before.before.before.before.args.left c.before.before.before.before.before.before.before.before.before.before.before.args.d c.before.before.before.before.before.before.before.before.before.before.before.args.m c.before.before.before.before.before.before.before.before.before.before.before.args.reference _ _ _ _ _ c.before.before.before.before.before.before.before.before.before.before.before.requires.1.0 c.before.before.before.before.before.before.before.before.before.before.before.requires.1.1 c.before.before.before.before.before.before.before.read-row.ensures c.before.before.before.before.before.before.own-type.ensures.1 c.before.before.before.before.enum_told.given.1 c.before.before.say.ensures

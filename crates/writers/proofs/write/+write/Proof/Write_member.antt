@@ -3,8 +3,8 @@ use Rattle.writers.proofs.Kindly.{member_as_structure, member_as_array, member_a
 use borrow.Author.Rules.{rules}
 use Prim.Native.Nat.{ℕ}
 use Rattle.writers.proofs.write.write_member.Reads as write-member
-use Rattle.writers.proofs.write.+pairs_write_map_point_to_element_run_pointer_run_struct_run_write_array_write_embedded_write_inline_write_laid_write_member_write_pointed_write_struct_write_structure.Lts-write_member as write-member-lts
-use Rattle.writers.proofs.write.+pairs_write_map_point_to_element_run_pointer_run_struct_run_write_array_write_embedded_write_inline_write_laid_write_member_write_pointed_write_struct_write_structure.Proof.Base.{write_member_at, write_member_calls}
+use Rattle.writers.proofs.write.+write.Lts-write_member as write-member-lts
+use Rattle.writers.proofs.write.+write.Proof.Base.{write_member_at, write_member_calls}
 
 write_member_write_plain_requires : (t : ℕ) → write-member-lts.Need-write-plain-requires (write_member_calls t) (write_member_at t) write-member.Post
 write_member_write_plain_requires t c κs = (c.before.before.before.before.before.requires.1.0, c.before.before.before.before.before.requires.1.1)

@@ -6,8 +6,8 @@ use borrow.Author.Tests.{leb-true, not-true, not-false}
 use native.Mathlib.Omega.{arith}
 use borrow.Author.Rules.{rules}
 use Rattle.writers.proofs.write.write_pointed.Reads as write-pointed
-use Rattle.writers.proofs.write.+pairs_write_map_point_to_element_run_pointer_run_struct_run_write_array_write_embedded_write_inline_write_laid_write_member_write_pointed_write_struct_write_structure.Lts-write_pointed as write-pointed-lts
-use Rattle.writers.proofs.write.+pairs_write_map_point_to_element_run_pointer_run_struct_run_write_array_write_embedded_write_inline_write_laid_write_member_write_pointed_write_struct_write_structure.Proof.Base.{write_pointed_at, write_pointed_calls}
+use Rattle.writers.proofs.write.+write.Lts-write_pointed as write-pointed-lts
+use Rattle.writers.proofs.write.+write.Proof.Base.{write_pointed_at, write_pointed_calls}
 
 write_pointed_returns : (t : ℕ) → write-pointed-lts.Need-returns (write_pointed_calls t) (write_pointed_at t) write-pointed.Post
 write_pointed_returns t c = pointed_long _ _ _ _ c.before.before.before.before.before.before.before.before.before.args.sheet.now c.before.before.before.before.before.before.before.before.before.args.schema.now c.before.before.before.before.before.before.before.before.before.args.left c.before.before.before.before.before.before.before.before.before.args.d c.before.before.before.before.before.before.before.before.before.args.m c.before.before.before.before.before.before.before.before.before.args.v _ _ _ c.before.before.before.before.before.before.before.before.before.requires.1.0.0 c.before.before.before.before.before.before.before.before.before.requires.1.0.1 c.before.before.before.before.before.fits2.ensures (not-true _ c.before.before.before.before.if1.true) c.before.before.say.ensures

@@ -11,8 +11,8 @@ use Prim.Native.Nat.{◌-◌}
 use borrow.Author.Rules.{rules}
 use Prim.Native.Nat.{ℕ}
 use Rattle.writers.proofs.write.run.pointer_run.Reads as pointer-run
-use Rattle.writers.proofs.write.+pairs_write_map_point_to_element_run_pointer_run_struct_run_write_array_write_embedded_write_inline_write_laid_write_member_write_pointed_write_struct_write_structure.Lts-run-pointer_run as pointer-run-lts
-use Rattle.writers.proofs.write.+pairs_write_map_point_to_element_run_pointer_run_struct_run_write_array_write_embedded_write_inline_write_laid_write_member_write_pointed_write_struct_write_structure.Proof.Base.{pointer_run_at, pointer_run_calls}
+use Rattle.writers.proofs.write.+write.Lts-run-pointer_run as pointer-run-lts
+use Rattle.writers.proofs.write.+write.Proof.Base.{pointer_run_at, pointer_run_calls}
 
 abbrev pointer_run_inv_loop : pointer-run-lts.invariant-loop
 pointer_run_inv_loop sheet schema work₀ round left d m reference first n q₀ k₀ work q k = (length work ≡ length work₀) × (k ≤ n) × (q₀.seen + 65536 * (17 + 8 * n) ≤ 65536 * q₀.charge) × Ready round (length work₀) 8 n q₀ × Pointing schema sheet round (length work₀) left d m reference first n q₀ work₀ q work k

@@ -7,8 +7,8 @@ use Rattle.writers.proofs.Pairing.{map_subtype, map_wide, map_wrong, map_pairs, 
 use borrow.Author.Rules.{rules}
 use Prim.Native.Nat.{ℕ}
 use Rattle.writers.proofs.write.map.write_map.Reads as write-map
-use Rattle.writers.proofs.write.+pairs_write_map_point_to_element_run_pointer_run_struct_run_write_array_write_embedded_write_inline_write_laid_write_member_write_pointed_write_struct_write_structure.Lts-map-write_map as write-map-lts
-use Rattle.writers.proofs.write.+pairs_write_map_point_to_element_run_pointer_run_struct_run_write_array_write_embedded_write_inline_write_laid_write_member_write_pointed_write_struct_write_structure.Proof.Base.{write_map_at, write_map_calls}
+use Rattle.writers.proofs.write.+write.Lts-map-write_map as write-map-lts
+use Rattle.writers.proofs.write.+write.Proof.Base.{write_map_at, write_map_calls}
 
 write_map_returns : (t : ℕ) → write-map-lts.Need-returns (write_map_calls t) (write_map_at t) write-map.Post
 write_map_returns t c = map_subtype c.before.before.before.before.before.before.before.before.before.before.args.sheet.now c.before.before.before.before.before.before.before.before.before.before.args.schema.now c.before.before.before.before.before.before.before.before.before.before.args.round c.before.before.before.before.before.before.before.before.before.before.args.left c.before.before.before.before.before.before.before.before.before.before.args.p c.before.before.before.before.before.before.before.before.before.before.args.work.now c.before.before.before.before.before.before.before.before.before.before.args.d c.before.before.before.before.before.before.before.before.before.before.args.m c.before.before.before.before.before.before.before.before.before.before.requires.1.0.0 c.before.before.before.before.before.before.before.before.before.before.requires.1.0.1 c.before.before.before.before.before.before.before.before.before.before.args.v _ _ c.before.before.before.before.before.if1.true c.before.before.say.ensures

@@ -8,8 +8,8 @@ use borrow.Author.Tests.{leb-true, not-true, not-false}
 use native.Mathlib.Omega.{arith}
 use borrow.Author.Rules.{rules}
 use Rattle.writers.proofs.write.write_inline.Reads as write-inline
-use Rattle.writers.proofs.write.+pairs_write_map_point_to_element_run_pointer_run_struct_run_write_array_write_embedded_write_inline_write_laid_write_member_write_pointed_write_struct_write_structure.Lts-write_inline as write-inline-lts
-use Rattle.writers.proofs.write.+pairs_write_map_point_to_element_run_pointer_run_struct_run_write_array_write_embedded_write_inline_write_laid_write_member_write_pointed_write_struct_write_structure.Proof.Base.{write_inline_at, write_inline_calls}
+use Rattle.writers.proofs.write.+write.Lts-write_inline as write-inline-lts
+use Rattle.writers.proofs.write.+write.Proof.Base.{write_inline_at, write_inline_calls}
 
 write_inline_look_up_requires : (t : ℕ) → write-inline-lts.Need-look-up-requires (write_inline_calls t) (write_inline_at t) write-inline.Post
 write_inline_look_up_requires t c κs = search rules

@@ -7,8 +7,8 @@ use Rattle.writers.proofs.Fillings.{laid_wide, laid_empty, laid_refused, laid_dr
 use borrow.Author.Rules.{rules}
 use Prim.Native.Nat.{ℕ}
 use Rattle.writers.proofs.write.write_laid.Reads as write-laid
-use Rattle.writers.proofs.write.+pairs_write_map_point_to_element_run_pointer_run_struct_run_write_array_write_embedded_write_inline_write_laid_write_member_write_pointed_write_struct_write_structure.Lts-write_laid as write-laid-lts
-use Rattle.writers.proofs.write.+pairs_write_map_point_to_element_run_pointer_run_struct_run_write_array_write_embedded_write_inline_write_laid_write_member_write_pointed_write_struct_write_structure.Proof.Base.{write_laid_at, write_laid_calls}
+use Rattle.writers.proofs.write.+write.Lts-write_laid as write-laid-lts
+use Rattle.writers.proofs.write.+write.Proof.Base.{write_laid_at, write_laid_calls}
 
 write_laid_returns : (t : ℕ) → write-laid-lts.Need-returns (write_laid_calls t) (write_laid_at t) write-laid.Post
 write_laid_returns t c = laid_wide c.before.before.before.before.before.before.before.before.before.args.sheet.now c.before.before.before.before.before.before.before.before.before.args.schema.now c.before.before.before.before.before.before.before.before.before.args.round c.before.before.before.before.before.before.before.before.before.args.left c.before.before.before.before.before.before.before.before.before.args.p c.before.before.before.before.before.before.before.before.before.args.work.now c.before.before.before.before.before.before.before.before.before.args.d c.before.before.before.before.before.before.before.before.before.args.m c.before.before.before.before.before.before.before.before.before.requires.1.0.0 c.before.before.before.before.before.before.before.before.before.requires.1.0.1 c.before.before.before.before.before.before.before.before.before.requires.1.1 c.before.before.before.before.before.before.before.before.before.args.x c.before.before.before.before.before.before.before.before.before.args.first c.before.before.before.before.before.before.before.before.before.args.n _ c.before.before.before.before.before.fits2.ensures _ _ c.before.before.before.before.if1.true c.before.before.say.ensures

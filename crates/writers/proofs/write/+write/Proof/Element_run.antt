@@ -3,8 +3,8 @@ use Rattle.writers.proofs.Kindly.{run_plain, run_pointers, run_missing, run_stru
 use borrow.Author.Rules.{rules}
 use Prim.Native.Nat.{ℕ}
 use Rattle.writers.proofs.write.run.element_run.Reads as element-run
-use Rattle.writers.proofs.write.+pairs_write_map_point_to_element_run_pointer_run_struct_run_write_array_write_embedded_write_inline_write_laid_write_member_write_pointed_write_struct_write_structure.Lts-run-element_run as element-run-lts
-use Rattle.writers.proofs.write.+pairs_write_map_point_to_element_run_pointer_run_struct_run_write_array_write_embedded_write_inline_write_laid_write_member_write_pointed_write_struct_write_structure.Proof.Base.{element_run_at, element_run_calls}
+use Rattle.writers.proofs.write.+write.Lts-run-element_run as element-run-lts
+use Rattle.writers.proofs.write.+write.Proof.Base.{element_run_at, element_run_calls}
 
 element_run_plain_element_run_requires : (t : ℕ) → element-run-lts.Need-plain-element-run-requires (element_run_calls t) (element_run_at t) element-run.Post
 element_run_plain_element_run_requires t c κs = c.before.before.before.before.before.before.requires.1

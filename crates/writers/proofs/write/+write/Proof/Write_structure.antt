@@ -4,8 +4,8 @@ use borrow.Author.Tests.{not-true, not-false}
 use borrow.Author.Rules.{rules}
 use Prim.Native.Nat.{ℕ}
 use Rattle.writers.proofs.write.write_structure.Reads as write-structure
-use Rattle.writers.proofs.write.+pairs_write_map_point_to_element_run_pointer_run_struct_run_write_array_write_embedded_write_inline_write_laid_write_member_write_pointed_write_struct_write_structure.Lts-write_structure as write-structure-lts
-use Rattle.writers.proofs.write.+pairs_write_map_point_to_element_run_pointer_run_struct_run_write_array_write_embedded_write_inline_write_laid_write_member_write_pointed_write_struct_write_structure.Proof.Base.{write_structure_at, write_structure_calls}
+use Rattle.writers.proofs.write.+write.Lts-write_structure as write-structure-lts
+use Rattle.writers.proofs.write.+write.Proof.Base.{write_structure_at, write_structure_calls}
 
 write_structure_wrong_requires : (t : ℕ) → write-structure-lts.Need-wrong-requires (write_structure_calls t) (write_structure_at t) write-structure.Post
 write_structure_wrong_requires t c κs = c.before.before.before.before.before.before.before.requires.1.0
