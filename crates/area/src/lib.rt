@@ -12,7 +12,7 @@ pub mod stack;
 pub mod used;
 
 // What a round is given: the schema's index entries, the charge's cap, and how many remarks were taken by earlier rounds.
-#[derive(Drop)]
+#[derive(Clone, Copy)]
 pub struct Round {
     pub entries: usize,
     pub cap: usize,
@@ -21,7 +21,7 @@ pub struct Round {
 
 // How many blocks, remark rows, used structures and enums there are; where items and stack end; the charge;
 // how many remarks were met, and how many of them the rows account for.
-#[derive(Drop)]
+#[derive(Clone, Copy)]
 pub struct Progress {
     pub blocks: usize,
     pub rows: usize,
@@ -35,14 +35,14 @@ pub struct Progress {
 }
 
 // An item's pointer, or refusal 10.
-#[derive(Drop)]
+#[derive(Clone, Copy)]
 pub enum Laid {
     At(u32, Progress),
     Refused(u32, Progress),
 }
 
 // Where an item goes: how many blocks stand before its block, and its start there.
-#[derive(Drop)]
+#[derive(Clone, Copy)]
 pub struct Spot {
     pub before: usize,
     pub start: usize,

@@ -7,7 +7,7 @@ ghost use Rattle.cells.specs.Names.{def_of, entries_from};
 use definitions::members::read_member;
 
 // A structure's definition: its name, its place in the schema file, its size and how many members it has.
-#[derive(Drop)]
+#[derive(Clone, Copy)]
 pub struct Def {
     pub name: u32,
     pub place: usize,

@@ -4,7 +4,7 @@ ghost use Rattle.layout.specs.Kinds;
 ghost use Rattle.cells.specs.Names.{kind_is};
 
 // An integer of so many bytes, an f32, a vector of so many f32s, or what else a member can be.
-#[derive(Drop)]
+#[derive(Clone, Copy)]
 pub enum Kind {
     Integer(usize),
     Single,

@@ -21,7 +21,7 @@ pub mod plan;
 
 // An integer of so many bytes, an f32, a vector, a hash, an enum's value or flags by n entries at a place of the schema in so many bytes,
 // a text in so many bytes.
-#[derive(Drop)]
+#[derive(Clone, Copy)]
 pub enum Cell {
     Integer(usize),
     Single,
@@ -33,7 +33,7 @@ pub enum Cell {
 }
 
 // Stored; the row does not fit; a float's text (refusal 11).
-#[derive(Drop)]
+#[derive(Clone, Copy)]
 pub enum Put {
     Stored,
     Unfit,

@@ -11,7 +11,7 @@ use definitions::lookup::{Found as Place, find_enum};
 use definitions::members::{Member, entry_count};
 
 // A cell of so many bytes, with whether its enum is known and that one's name; a text by pointer; nothing; a kind of remark, with its detail.
-#[derive(Drop)]
+#[derive(Clone, Copy)]
 pub enum Plan {
     Store(Cell, usize, bool, u32),
     Pointer,

@@ -48,7 +48,7 @@ pub fn is_array_value(sheet: &[u8], v: Row) -> bool
 }
 
 // An element descriptor, or none.
-#[derive(Drop)]
+#[derive(Clone, Copy)]
 pub enum Info {
     At(Member),
     Missing,

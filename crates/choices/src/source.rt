@@ -12,7 +12,7 @@ use definitions::members::read_member;
 use value::{Found, field_named, read_row};
 
 // The members of a row; none; a pair's key, or key and value, each with its row and name.
-#[derive(Drop)]
+#[derive(Clone, Copy)]
 pub enum Source {
     Row(usize),
     Nothing,

@@ -12,7 +12,7 @@ use texts::text::until_parting;
 use value::{Row, child_count, first_child, read_row, text_of};
 
 // The four numbers, a value that does not fit, or a float's text (refusal 11).
-#[derive(Drop)]
+#[derive(Clone, Copy)]
 pub enum Vector {
     Fits(u32, u32, u32, u32),
     Unfit,

@@ -92,7 +92,7 @@ fn one(b: bool) -> u64
     if b { 1 } else { 0 }
 }
 
-#[derive(Drop)]
+#[derive(Clone, Copy)]
 struct Count {
     rows: u64,
     good: u64,

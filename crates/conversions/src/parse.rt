@@ -3,13 +3,13 @@ ghost use Rattle.std.specs.Prelude.{◌≡◌, ◌≤◌, ◌<◌, ◌^◌, leng
 ghost use Rattle.conversions.specs.Radix.{digit_of, digits, first_of, after_plus, unsigned, signed};
 ghost use Rattle.conversions.specs.Answer.{number_is, whole_is, plus_is, minus_is, word_is};
 
-#[derive(Drop)]
+#[derive(Clone, Copy)]
 pub enum Number {
     Value(u64),
     Bad,
 }
 
-#[derive(Drop)]
+#[derive(Clone, Copy)]
 pub enum Whole {
     Value(i64),
     Bad,
@@ -143,7 +143,7 @@ pub fn i64_of(s: &[u8], radix: u64) -> Whole
     plus_of(read_digits(after_plus(s), radix, 0x7FFF_FFFF_FFFF_FFFF))
 }
 
-#[derive(Drop)]
+#[derive(Clone, Copy)]
 pub enum Word {
     Value(u32),
     Bad,

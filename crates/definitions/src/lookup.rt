@@ -11,7 +11,7 @@ use numbers::words::{is_name, left, read_u8, read_u32, u32_at};
 use schema::cursor::{Cursor, Step};
 
 // A place in the file, or none.
-#[derive(Drop)]
+#[derive(Clone, Copy)]
 pub enum Found {
     At(usize),
     Nothing,

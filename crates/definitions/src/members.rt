@@ -7,7 +7,7 @@ ghost use Rattle.definitions.specs.Answers.{head_here, member_is, entry_here};
 use numbers::words::{read_u8, read_u16, read_u24, read_u32};
 
 // A structure's numbers besides its members.
-#[derive(Drop)]
+#[derive(Clone, Copy)]
 pub struct Head {
     pub unknown: u8,
     pub count: u16,
@@ -35,7 +35,7 @@ pub fn read_head(file: &[u8], place: usize) -> Head
     }
 }
 
-#[derive(Drop)]
+#[derive(Clone, Copy)]
 pub struct Member {
     pub name: u32,
     pub kind: u8,
@@ -82,7 +82,7 @@ pub fn entry_count(file: &[u8], place: usize) -> u32
     read_u24(file, place + 1)
 }
 
-#[derive(Drop)]
+#[derive(Clone, Copy)]
 pub struct Entry {
     pub name: u32,
     pub value: u32,

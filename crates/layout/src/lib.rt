@@ -3,7 +3,7 @@
 
 // A remark: what is wrong with a member of a structure.
 #[repr(C)]
-#[derive(Drop)]
+#[derive(Clone, Copy)]
 pub struct Remark {
     pub kind: u32,
     pub structure: u32,

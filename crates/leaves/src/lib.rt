@@ -31,28 +31,28 @@ use texts::text::trim;
 use value::read_row;
 
 #[repr(C)]
-#[derive(Drop)]
+#[derive(Clone, Copy)]
 pub struct Unsigned {
     pub code: u32,
     pub value: u64,
 }
 
 #[repr(C)]
-#[derive(Drop)]
+#[derive(Clone, Copy)]
 pub struct Signed {
     pub code: u32,
     pub value: i64,
 }
 
 #[repr(C)]
-#[derive(Drop)]
+#[derive(Clone, Copy)]
 pub struct Small {
     pub code: u32,
     pub value: u32,
 }
 
 #[repr(C)]
-#[derive(Drop)]
+#[derive(Clone, Copy)]
 pub struct Four {
     pub code: u32,
     pub a: u32,

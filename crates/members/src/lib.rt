@@ -21,14 +21,14 @@ pub mod member;
 pub mod slots;
 
 // The definition that a name stands for, or none.
-#[derive(Drop)]
+#[derive(Clone, Copy)]
 pub enum Looked {
     At(Def),
     Missing,
 }
 
 // A writer has written, or a refusal.
-#[derive(Drop)]
+#[derive(Clone, Copy)]
 pub enum Wrote {
     Done(Progress),
     Refused(u32, Progress),

@@ -13,7 +13,7 @@ use numbers::words::{is_name, read_u16, read_u32};
 use schema::cursor::{Cursor, Step};
 
 // The rows of a PMAP section.
-#[derive(Drop)]
+#[derive(Clone, Copy)]
 pub enum Rows {
     // The root number, where the rows start in the section, and how many there are.
     Table {
@@ -67,7 +67,7 @@ pub fn read_rows(p: &[u8]) -> Rows
 }
 
 // A block: its name, its place in the data section and its length.
-#[derive(Drop)]
+#[derive(Clone, Copy)]
 pub enum Row {
     Found { name: u32, place: u32, len: u32 },
     Nothing,
@@ -89,7 +89,7 @@ fn row_at(file: &[u8], at: usize) -> Row
 }
 
 // Where rows start in the file, and how many there are.
-#[derive(Drop)]
+#[derive(Clone, Copy)]
 pub struct Span {
     pub start: usize,
     pub count: usize,

@@ -73,7 +73,7 @@ fn first(file: &[u8], kind: u8, name: u32) -> Found
 }
 
 // A definition's numbers and its place in the file. An enum has neither unknown byte nor size: they are 0.
-#[derive(Drop)]
+#[derive(Clone, Copy)]
 pub enum Definition {
     Found {
         unknown: u8,

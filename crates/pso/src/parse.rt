@@ -12,21 +12,21 @@ use schema::check::{Checked, check_psch};
 use schema::cursor::{Cursor, Step};
 
 // The last PSIN section.
-#[derive(Drop)]
+#[derive(Clone, Copy)]
 pub enum Part {
     At { place: usize, len: usize },
     Nothing,
 }
 
 // The last PMAP section's root number.
-#[derive(Drop)]
+#[derive(Clone, Copy)]
 pub enum Root {
     Number(u32),
     Nothing,
 }
 
 // What is known after some sections.
-#[derive(Drop)]
+#[derive(Clone, Copy)]
 pub struct State {
     pub body: Part,
     pub root: Root,
@@ -34,7 +34,7 @@ pub struct State {
 }
 
 // What one section leaves.
-#[derive(Drop)]
+#[derive(Clone, Copy)]
 pub enum Saw {
     Next(State),
     // 16, 5 or 6.
@@ -96,7 +96,7 @@ fn see(file: &[u8], place: usize, len: usize, s: State) -> Saw
 }
 
 // What the reader gives.
-#[derive(Drop)]
+#[derive(Clone, Copy)]
 pub enum Parsed {
     // The root number, the place and length of the data section in the file, the number of blocks.
     Pso {

@@ -8,7 +8,7 @@ pub mod opening;
 pub mod run;
 
 // A round that has run: whether it ended well, the root's pointer or the refusal's number, the root's place and name, and its numbers.
-#[derive(Drop)]
+#[derive(Clone, Copy)]
 pub struct Job {
     pub good: bool,
     pub value: u32,
@@ -20,7 +20,7 @@ pub struct Job {
 
 // Where the merge of a round's rows into the list stands. Until `last`: row `row` is compared with record `at` of the `base` that
 // earlier rounds left, or is to be put at `at`, behind the `count` that there are. At `last` only zeros are left to write, from `at` on.
-#[derive(Drop)]
+#[derive(Clone, Copy)]
 pub struct Stage {
     pub at: usize,
     pub last: bool,

@@ -9,7 +9,7 @@ use sheet::{Sheet, check_sheet};
 use value::read_row;
 
 // What is refused before the layout; or what it runs with: the round, the root's place and name.
-#[derive(Drop)]
+#[derive(Clone, Copy)]
 pub enum Opening {
     Refused(u32),
     Go(Round, usize, u32),

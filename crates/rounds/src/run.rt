@@ -13,7 +13,7 @@ use members::Wrote;
 use writers::write::write_struct;
 
 // The root's pointer; or the refusal, 8, 9, 10 or 11.
-#[derive(Drop)]
+#[derive(Clone, Copy)]
 pub enum Ran {
     Done(u32, Progress),
     Refused(u32, Progress),

@@ -29,7 +29,7 @@ use members::{Wrote, drop_run, pay, say};
 use value::read_row;
 
 // A run's bytes are on the stack, and the name of its block; or the run is dropped; or a refusal.
-#[derive(Drop)]
+#[derive(Clone, Copy)]
 pub enum Ran {
     Kept(u32, Progress),
     Dropped(Progress),

@@ -20,7 +20,7 @@ use turns::Built;
 
 // What building gives: code 0, the file's length and the number of remarks; or the refusal's number, and zeros.
 #[repr(C)]
-#[derive(Drop)]
+#[derive(Clone, Copy)]
 pub struct Outcome {
     pub code: u32,
     pub length: usize,
@@ -64,7 +64,7 @@ pub extern "C" fn sandvurek_build(
 // What the reader gives: code 0, the root's block number, where the data section stands in the file and its length, the
 // number of blocks; or the refusal's number, and zeros.
 #[repr(C)]
-#[derive(Drop)]
+#[derive(Clone, Copy)]
 pub struct Reading {
     pub code: u32,
     pub root: u32,
@@ -104,7 +104,7 @@ pub extern "C" fn sandvurek_read(file: &[u8]) -> Reading
 
 // A block: found 1, its name, its place in the data section and its length; or zeros.
 #[repr(C)]
-#[derive(Drop)]
+#[derive(Clone, Copy)]
 pub struct Block {
     pub found: u32,
     pub name: u32,
@@ -138,7 +138,7 @@ pub extern "C" fn sandvurek_block(file: &[u8], number: usize) -> Block
 // A definition: found 1, its unknown byte and size (0 for an enum), how many members or entries it has, its place in the
 // file; or zeros.
 #[repr(C)]
-#[derive(Drop)]
+#[derive(Clone, Copy)]
 pub struct Definition {
     pub found: u32,
     pub unknown: u32,
@@ -194,7 +194,7 @@ pub extern "C" fn sandvurek_enum(file: &[u8], name: u32) -> Definition
 
 // A member of a structure.
 #[repr(C)]
-#[derive(Drop)]
+#[derive(Clone, Copy)]
 pub struct Member {
     pub name: u32,
     pub kind: u32,
@@ -220,7 +220,7 @@ pub extern "C" fn sandvurek_member(file: &[u8], at: usize, index: u32) -> Member
 
 // An entry of an enum.
 #[repr(C)]
-#[derive(Drop)]
+#[derive(Clone, Copy)]
 pub struct Entry {
     pub name: u32,
     pub value: u32,

@@ -50,7 +50,7 @@ fn kind_at(p: &[u8], at: usize) -> u32
 }
 
 // What a check finds.
-#[derive(Drop)]
+#[derive(Clone, Copy)]
 pub enum Checked {
     // All is whole: the number of index entries.
     Sound(usize),

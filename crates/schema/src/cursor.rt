@@ -4,13 +4,13 @@ ghost use Rattle.schema.specs.Steps.{rest, followed, Reach};
 
 use numbers::words::{left, read_u32};
 
-#[derive(Drop)]
+#[derive(Clone, Copy)]
 pub struct Cursor {
     pub at: usize,
 }
 
 // What stands at a cursor.
-#[derive(Drop)]
+#[derive(Clone, Copy)]
 pub enum Step {
     // A section: its place and length in the file, and the cursor behind it.
     Section {

@@ -10,7 +10,7 @@ use numbers::words::read_u8;
 use value::{Row, child_count, first_child, name_of, read_row, row_count, text_area};
 
 // The answer of the check: refusals 1, 2 and 3, or none.
-#[derive(Drop)]
+#[derive(Clone, Copy)]
 pub enum Sheet {
     Broken,
     Text,
@@ -37,7 +37,7 @@ fn count_of(r: RowNumber) -> usize
 }
 
 // What the rows so far claim: rows and text bytes; the last row's level, and the next level's first row.
-#[derive(Drop)]
+#[derive(Clone, Copy)]
 pub struct Walk {
     pub claimed: RowNumber,
     pub texts: usize,

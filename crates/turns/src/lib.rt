@@ -14,14 +14,14 @@ use rounds::merge::{judged, no_job, refusal, seek, take_round};
 use rounds::opening::{Opening, opened};
 
 // The length of the file and the number of remarks; or a refusal's number.
-#[derive(Drop)]
+#[derive(Clone, Copy)]
 pub enum Built {
     File(usize, usize),
     Refused(u32),
 }
 
 // What a turn makes of a record, and where the merge stands then.
-#[derive(Drop)]
+#[derive(Clone, Copy)]
 pub struct Turn {
     pub st: Stage,
     pub new: Remark,

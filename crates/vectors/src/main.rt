@@ -19,7 +19,7 @@ use turns::Built;
 mod judge;
 
 // The answer, and all records behind it.
-#[derive(Drop)]
+#[derive(Clone, Copy)]
 pub struct Kept {
     pub built: Built,
     pub list: [Remark; 64],

@@ -36,7 +36,7 @@ mod map;
 mod run;
 
 // A structure's pointer; none (remark 4); or a refusal.
-#[derive(Drop)]
+#[derive(Clone, Copy)]
 pub enum Pointed {
     At(u32, Progress),
     Nothing(Progress),
