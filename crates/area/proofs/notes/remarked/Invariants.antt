@@ -1,0 +1,15 @@
+-- `area::notes::remarked` meets its contract. Assumes nothing.
+use mathlib.Core.Path.{◌≡◌, sym, ap, ◌∙◌}
+use Prim.Native.Nat.{◌+◌, ◌-◌, ◌*◌, ◌≤◌}
+use native.Mathlib.Nat.{sub-zero}
+use borrow.Author.Rules.{rules}
+use Rattle.layout.specs.State
+use Rattle.area.specs.Rows.{rows_in}
+use Rattle.area.proofs.Remarks.{rows_next, rows_last}
+use Rattle.area.proofs.notes.remarked.Given as goal
+
+abbrev pub invariant-loop-k : goal.invariant-loop-k
+invariant-loop-k l = (l.k ≤ l.n) × (State.remarked l.r (rows_in l.work (32768 + 16 * l.k) (l.n - l.k)) ≡ State.remarked l.r (rows_in l.work 32768 l.n))
+
+abbrev pub decreases-loop-k : goal.decreases-loop-k
+decreases-loop-k l = l.n - l.k

@@ -1,0 +1,6 @@
+-- `area::stack::shift` meets its contract. Assumes nothing.
+use borrow.Author.Rules.{rules}
+use Rattle.area.proofs.stack.shift.Goals as goal
+
+pub returns : goal.returns
+returns c = cc

@@ -1,0 +1,19 @@
+-- `assemble::blocks::fill_table` meets its contract. Assumes nothing.
+use Prim.Native.Nat.{◌+◌, ◌-◌, ◌*◌, ◌≤◌, ◌<◌}
+use mathlib.Core.Path.{◌≡◌, refl, sym, ◌∙◌, subst}
+use mathlib.Core.List.{List}
+use native.Mathlib.Omega.{arith}
+use lib.ListN.{length}
+use Rattle.numbers.specs.Words.{bytes_of, Stands}
+use Rattle.layout.specs.State.{Block}
+use Rattle.area.specs.Area.{rows_of}
+use Rattle.assemble.specs.Map.{Rows}
+use Rattle.assemble.proofs.Maps.{Going, begin, turn, again, last, sum, table_part, table_all, table_parts, rows_stay}
+use Rattle.assemble.proofs.blocks.fill_table.Given as goal
+
+abbrev pub invariant-loop-k : goal.invariant-loop-k
+invariant-loop-k l = (l.k ≤ l.count) × (length l.work ≡ length l.initial.work)
+    × ((bs : List Block) → Rows l.initial.work l.rows l.count bs → Going table_all bs l.initial.work l.table l.count l.k l.place (l.rows + 8 * l.k) (l.table + 4 * l.k) l.work l.work)
+
+abbrev pub decreases-loop-k : goal.decreases-loop-k
+decreases-loop-k l = l.count - l.k

@@ -1,0 +1,116 @@
+-- `cells::plan::plan_of` meets its contract. Assumes nothing.
+use mathlib.Core.Path.{refl, sym, ap}
+use mathlib.Core.Logic.{inl, inr, ⊎_elim}
+use native.Mathlib.Omega.{arith}
+use borrow.Author.Rules.{rules}
+use Rattle.layout.specs.Kinds
+use Rattle.layout.specs.Kinds.{kind_of}
+use Rattle.cells.proofs.Kinding.{one_byte, two_bytes, four_bytes, threes, fours, left_out, no_other_law}
+use Rattle.cells.proofs.Planning.{plan_scalar, plan_text, text_fixed, text_pointed, text_hashed, text_strange, plan_enum, plan_flags, plan_left, plan_other}
+use Rattle.cells.proofs.plan.plan_of.Goals as goal
+
+pub overflow_cast-result : goal.overflow_cast-result
+unfolding kind_of
+overflow_cast-result c = search rules
+
+pub overflow_cast-result-in_default : goal.overflow_cast-result-in_default
+unfolding kind_of
+overflow_cast-result-in_default c = search rules
+
+pub returns-in-7 : goal.returns-in-7
+unfolding kind_of
+returns-in-7 c =
+    let a = c.args in plan_scalar a.schema.now a.d a.m _ (ap kind_of (sym c.in-7.is)) Kinds.single _ refl tt refl (omega arith) refl
+
+pub returns-in-8 : goal.returns-in-8
+unfolding kind_of
+returns-in-8 c =
+    let a = c.args in plan_scalar a.schema.now a.d a.m _ (ap kind_of (sym c.in-8.is)) (Kinds.vector 2) _ refl (omega arith, omega arith) refl (omega arith) c.vector.ensures
+
+pub returns-in-9 : goal.returns-in-9
+unfolding kind_of
+returns-in-9 c =
+    let a = c.args in plan_scalar a.schema.now a.d a.m _ (threes a.m.kind c.in-9.is) (Kinds.vector 3) _ refl (omega arith, omega arith) refl (omega arith) c.vector-in-9.ensures
+
+pub returns-in-10 : goal.returns-in-10
+unfolding kind_of
+returns-in-10 c =
+    let a = c.args in plan_scalar a.schema.now a.d a.m _ (fours a.m.kind c.in-10.is) (Kinds.vector 4) _ refl (omega arith, omega arith) refl (omega arith) c.vector-in-10.ensures
+
+pub returns-in-0 : goal.returns-in-0
+unfolding kind_of
+returns-in-0 c =
+    let a = c.args in
+    plan_text a.schema.now a.d a.m _ (ap kind_of (sym c.in-11.is)) _ refl (rw c.fixed.ensures.0 (text_fixed a.schema.now a.d a.m c.in-0.is c.fixed.ensures.1))
+
+pub returns-in-1-to-3 : goal.returns-in-1-to-3
+unfolding kind_of
+returns-in-1-to-3 c =
+    let a = c.args in
+    plan_text a.schema.now a.d a.m _ (ap kind_of (sym c.in-11.is)) _ refl (text_pointed a.schema.now a.d a.m c.in_default-1.rest.1 c.if-sub-lt4.true)
+
+pub returns-in-7-sub : goal.returns-in-7-sub
+unfolding kind_of
+returns-in-7-sub c =
+    let a = c.args in
+    plan_text a.schema.now a.d a.m _ (ap kind_of (sym c.in-11.is)) _ refl (text_hashed a.schema.now a.d a.m c.if-sub-lt7.false c.if-sub-lt9.true)
+
+pub returns-in_default-sub : goal.returns-in_default-sub
+unfolding kind_of
+returns-in_default-sub c =
+    let a = c.args in
+    plan_text a.schema.now a.d a.m _ (ap kind_of (sym c.in-11.is)) _ refl
+    (text_strange a.schema.now a.d a.m c.if-sub-lt4.false (⊎_elim (λ t. inl t.taken) (λ t. inr t.1.left) c.in_default-sub.branch))
+
+pub returns-in-14 : goal.returns-in-14
+unfolding kind_of
+returns-in-14 c =
+    let a = c.args in plan_enum a.schema.now a.d a.m _ (ap kind_of (sym c.in-14.is)) _ refl c.named_plan.ensures
+
+pub returns-in-15 : goal.returns-in-15
+unfolding kind_of
+returns-in-15 c =
+    let a = c.args in plan_flags a.schema.now a.d a.m _ (ap kind_of (sym c.in-15.is)) _ _ refl c.reference_at-h.ensures c.named_plan-in-15.ensures
+
+pub returns-in-32 : goal.returns-in-32
+unfolding kind_of
+returns-in-32 c =
+    let a = c.args in plan_scalar a.schema.now a.d a.m _ (ap kind_of (sym c.in-32.is)) (Kinds.integer 8) _ refl (omega arith) refl (omega arith) c.whole.ensures
+
+pub returns-in-0-to-2 : goal.returns-in-0-to-2
+unfolding kind_of
+returns-in-0-to-2 c =
+    let a = c.args in plan_scalar a.schema.now a.d a.m _ (one_byte a.m.kind c.if-ty-lt3.true) (Kinds.integer 1) _ refl (omega arith) refl (omega arith) c.whole-in-0-to-2.ensures
+
+pub returns-in-5 : goal.returns-in-5
+unfolding kind_of
+returns-in-5 c =
+    let a = c.args in plan_scalar a.schema.now a.d a.m _ (four_bytes a.m.kind c.if-ty-lt5.false c.if-ty-lt7.true) (Kinds.integer 4) _ refl (omega arith) refl (omega arith) c.whole-in-5.ensures
+
+pub returns-in_default : goal.returns-in_default
+unfolding kind_of
+returns-in_default c =
+    let a = c.args in
+    let r = c.in_default-1.rest in
+    let l = c.if-ty-lt14.false in
+    plan_other a.schema.now a.d a.m _
+    (no_other_law a.m.kind c.if-ty-lt7.false r.0.0.0.0.0.0.0.0.0.1 r.0.0.0.0.0.0.0.0.1 r.0.0.0.0.0.0.0.1 r.0.0.0.0.0.0.1 r.0.0.0.0.0.1 r.0.0.0.0.1
+    (λ q. omega (arith, l, q)) (λ q. omega (arith, l, q)) r.0.0.1 r.0.1 r.0.0.0.1 r.1)
+    refl
+
+pub returns-in-12 : goal.returns-in-12
+unfolding kind_of
+returns-in-12 c = let a = c.args in plan_left a.schema.now a.d a.m _ (ap kind_of (sym c.in-12.is)) (inr (inr refl))
+
+pub returns-in-12-2 : goal.returns-in-12-2
+unfolding kind_of
+returns-in-12-2 c =
+    let a = c.args in
+    let r = c.in_default-1.rest in
+    ⊎_elim (λ q. plan_left a.schema.now a.d a.m _ (ap kind_of (sym q)) (inl refl)) (λ q. plan_left a.schema.now a.d a.m _ (ap kind_of (sym q)) (inr (inl refl)))
+    (left_out a.m.kind c.if-ty-lt7.false c.if-ty-lt14.true r.0.0.0.0.0.0.0.0.1 r.0.0.0.0.0.0.0.1 r.0.0.0.0.0.0.1 r.0.0.0.0.0.1 r.0.0.0.0.1)
+
+pub returns-in-3 : goal.returns-in-3
+unfolding kind_of
+returns-in-3 c =
+    let a = c.args in plan_scalar a.schema.now a.d a.m _ (⊎_elim (λ t. ap kind_of (sym t.keys1)) (λ t. two_bytes a.m.kind t.1.left t.2.taken) c.in-3-1.branch) (Kinds.integer 2) _ refl (omega arith) refl (omega arith) c.whole-in-3.ensures

@@ -1,0 +1,14 @@
+-- `leaves::of_bits` meets its contract. Assumes nothing.
+use mathlib.Core.Path.{sym, ap}
+use borrow.Author.Rules.{rules}
+use Rattle.leaves.specs.Codes
+use Rattle.leaves.proofs.of_bits.Goals as goal
+
+pub returns-in-Fits : goal.returns-in-Fits
+returns-in-Fits c = ap Codes.of_bits (sym c.in-Fits.is)
+
+pub returns-in-Unfit : goal.returns-in-Unfit
+returns-in-Unfit c = ap Codes.of_bits (sym c.in-Unfit.is)
+
+pub returns-in-FloatText : goal.returns-in-FloatText
+returns-in-FloatText c = ap Codes.of_bits (sym c.in-FloatText.is)

@@ -1,0 +1,24 @@
+-- `numbers::words::clear` meets its contract. Assumes nothing.
+use mathlib.Core.Path.{◌≡◌, refl, ◌∙◌}
+use Prim.Native.Nat.{◌+◌, ◌-◌, ◌≤◌}
+use native.Mathlib.Omega.{arith}
+use lib.ListN.{length, length-set}
+use Rattle.numbers.specs.Words.{over, zeros}
+use Rattle.numbers.proofs.Laws
+use Rattle.numbers.proofs.words.clear.Goals as goal
+
+pub loop-i-init : goal.loop-i-init
+loop-i-init c = (omega arith, refl, Laws.clear_start c.args.s.now _ c.args.n)
+
+pub loop-i-preserved : goal.loop-i-preserved
+loop-i-preserved c =
+    let l = c.loop-i in
+    let a = c.args in
+    (omega arith, length-set l.s _ _ ∙ l.invariant.1, Laws.clear_turn l.s a.at l.i (omega arith) _ a.n c.loop-i-test.true l.invariant.2)
+
+pub shape_of-s : goal.shape_of-s
+shape_of-s c = c.loop-i.invariant.1
+
+pub returns : goal.returns
+returns c =
+    let l = c.loop-i in Laws.clear_done l.s (c.args.at + l.i) _ c.args.n l.i c.loop-i-test.false l.invariant.2

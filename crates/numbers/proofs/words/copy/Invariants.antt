@@ -1,0 +1,14 @@
+-- `numbers::words::copy` meets its contract. Assumes nothing.
+use mathlib.Core.Path.{◌≡◌, refl, ◌∙◌}
+use Prim.Native.Nat.{◌+◌, ◌-◌, ◌≤◌}
+use native.Mathlib.Omega.{arith}
+use lib.ListN.{length, drop, length-set}
+use Rattle.numbers.specs.Words.{over}
+use Rattle.numbers.proofs.Laws
+use Rattle.numbers.proofs.words.copy.Given as goal
+
+abbrev pub invariant-loop-i : goal.invariant-loop-i
+invariant-loop-i l = (l.i ≤ length l.from) × (length l.s ≡ length l.initial.s) × (over l.s (l.at + l.i) (drop l.i l.from) ≡ over l.initial.s l.at l.from)
+
+abbrev pub decreases-loop-i : goal.decreases-loop-i
+decreases-loop-i l = length l.from - l.i

@@ -1,0 +1,14 @@
+-- `numbers::words::move_down` meets its contract. Assumes nothing.
+use mathlib.Core.Path.{◌≡◌, refl, ◌∙◌}
+use Prim.Native.Nat.{◌+◌, ◌-◌, ◌≤◌}
+use native.Mathlib.Omega.{arith}
+use lib.ListN.{length, take, drop, length-set}
+use Rattle.numbers.specs.Words.{over}
+use Rattle.numbers.proofs.Laws
+use Rattle.numbers.proofs.words.move_down.Given as goal
+
+abbrev pub invariant-loop-i : goal.invariant-loop-i
+invariant-loop-i l = (l.i ≤ l.n) × (length l.s ≡ length l.initial.s) × (over l.s (l.to + l.i) (take (l.n - l.i) (drop (l.from + l.i) l.s)) ≡ over l.initial.s l.to (take l.n (drop l.from l.initial.s)))
+
+abbrev pub decreases-loop-i : goal.decreases-loop-i
+decreases-loop-i l = l.n - l.i

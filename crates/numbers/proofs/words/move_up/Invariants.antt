@@ -1,0 +1,14 @@
+-- `numbers::words::move_up` meets its contract. Assumes nothing.
+use mathlib.Core.Path.{◌≡◌, refl, ◌∙◌}
+use Prim.Native.Nat.{◌-◌, ◌≤◌}
+use native.Mathlib.Omega.{arith}
+use lib.ListN.{length, take, drop, length-set}
+use Rattle.numbers.specs.Words.{over}
+use Rattle.numbers.proofs.Laws
+use Rattle.numbers.proofs.words.move_up.Given as goal
+
+abbrev pub invariant-loop-left : goal.invariant-loop-left
+invariant-loop-left l = (l.left ≤ l.n) × (length l.s ≡ length l.initial.s) × (over l.s l.to (take l.left (drop l.from l.s)) ≡ over l.initial.s l.to (take l.n (drop l.from l.initial.s)))
+
+abbrev pub decreases-loop-left : goal.decreases-loop-left
+decreases-loop-left l = l.left

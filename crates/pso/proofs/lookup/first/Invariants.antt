@@ -1,0 +1,14 @@
+-- `pso::lookup::first` meets its contract. Assumes nothing.
+use Prim.Native.Nat.{◌-◌, ◌≤◌}
+use native.Mathlib.Omega.{arith}
+use lib.ListN.{length}
+use borrow.Author.Rules.{rules}
+use Rattle.schema.proofs.Walk.{onward, ended, broke}
+use Rattle.pso.proofs.Leading.{Going, begin, at_end_law, at_broken, found, goes_on}
+use Rattle.pso.proofs.lookup.first.Given as goal
+
+abbrev pub invariant-loop-place : goal.invariant-loop-place
+invariant-loop-place l = (l.c.at ≤ length l.file) × Going l.file l.kind l.name l.c.at
+
+abbrev pub decreases-loop-place : goal.decreases-loop-place
+decreases-loop-place l = length l.file - l.c.at

@@ -1,0 +1,14 @@
+-- `pso::lookup::first_in` meets its contract. Assumes nothing.
+use mathlib.Core.Path.{ap}
+use native.Mathlib.Omega.{arith}
+use Prim.Native.Nat.{◌+◌, ◌-◌, ◌≤◌}
+use borrow.Author.Rules.{rules}
+use Rattle.numbers.specs.Result.{map_option}
+use Rattle.pso.proofs.Leading.{Left, first_start, first_hit, first_miss, first_none}
+use Rattle.pso.proofs.lookup.first_in.Given as goal
+
+abbrev pub invariant-loop-i : goal.invariant-loop-i
+invariant-loop-i l = (l.i ≤ l.n) × Left l.p l.kind l.name l.n l.i
+
+abbrev pub decreases-loop-i : goal.decreases-loop-i
+decreases-loop-i l = l.n - l.i

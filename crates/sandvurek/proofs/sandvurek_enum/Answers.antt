@@ -1,0 +1,11 @@
+-- `sandvurek::sandvurek_enum` meets its contract. Assumes nothing.
+use mathlib.Core.Path.{ap, ◌∙◌}
+use Rattle.sandvurek.specs.Exports.{definition_is}
+use Rattle.sandvurek.proofs.Looked.{enum_told}
+use borrow.Author.Rules.{rules}
+use Rattle.sandvurek.proofs.sandvurek_enum.Goals as goal
+
+pub returns : goal.returns
+returns c =
+    let a = c.args in
+    enum_told a.file.now a.name c.numbers_of.result (c.numbers_of.ensures ∙ ap definition_is c.enumeration.ensures.value)

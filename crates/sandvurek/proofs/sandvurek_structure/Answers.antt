@@ -1,0 +1,11 @@
+-- `sandvurek::sandvurek_structure` meets its contract. Assumes nothing.
+use mathlib.Core.Path.{ap, ◌∙◌}
+use Rattle.sandvurek.specs.Exports.{definition_is}
+use Rattle.sandvurek.proofs.Looked.{struct_told}
+use borrow.Author.Rules.{rules}
+use Rattle.sandvurek.proofs.sandvurek_structure.Goals as goal
+
+pub returns : goal.returns
+returns c =
+    let a = c.args in
+    struct_told a.file.now a.name c.numbers_of.result (c.numbers_of.ensures ∙ ap definition_is c.structure.ensures.value)

@@ -1,0 +1,16 @@
+-- `schema::check::check_psch` meets its contract. Assumes nothing.
+use mathlib.Core.Path.{◌≡◌, sym, ◌∙◌}
+use Prim.Native.Nat.{◌+◌, ◌-◌, ◌*◌, ◌≤◌}
+use native.Mathlib.Omega.{arith}
+use lib.ListN.{length}
+use borrow.Author.Rules.{rules}
+use Rattle.numbers.specs.Result.{map_result}
+use Rattle.schema.specs.Psch.{defs_from, psch_of}
+use Rattle.schema.proofs.Counts.{more, psch_short, psch_past, begin, turn, stop, finish}
+use Rattle.schema.proofs.check.check_psch.Given as goal
+
+abbrev pub invariant-loop-i : goal.invariant-loop-i
+invariant-loop-i l = (l.i ≤ l.n) × (map_result (more l.i) (defs_from l.p (l.n - l.i) (12 + 8 * l.i)) ≡ map_result length (psch_of l.p))
+
+abbrev pub decreases-loop-i : goal.decreases-loop-i
+decreases-loop-i l = l.n - l.i

@@ -1,0 +1,17 @@
+-- `sheet::walks` meets its contract. Assumes nothing.
+use mathlib.Core.Path.{◌≡◌, sym, ap, ◌∙◌}
+use Prim.Native.Nat.{◌-◌, ◌*◌, ◌^◌, ◌≤◌}
+use native.Mathlib.Nat.{sub-zero}
+use native.Mathlib.Omega.{arith}
+use borrow.Author.Tests.{not-true, not-false}
+use borrow.Author.Rules.{rules}
+use Rattle.value.specs.Rows
+use Rattle.sheet.specs.Layout
+use Rattle.sheet.proofs.Laws
+use Rattle.sheet.proofs.walks.Given as goal
+
+abbrev pub invariant-loop-v : goal.invariant-loop-v
+invariant-loop-v l = (l.r ≤ l.n) × (l.w.claimed ≤ 16384) × (l.w.level ≤ 64) × (l.w.texts ≤ l.r * 2 ^ 32) × (Layout.walks l.sheet (l.n - l.r) l.r l.w ≡ Layout.walks l.sheet l.n 0 Layout.begin)
+
+abbrev pub decreases-loop-v : goal.decreases-loop-v
+decreases-loop-v l = l.n - l.r
