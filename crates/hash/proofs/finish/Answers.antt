@@ -6,4 +6,4 @@ use Rattle.hash.proofs.finish.Goals as goal
 pub returns : goal.returns
 unfolding finish_of
 returns c =
-    c.wrapping_add_u32.ensures ∙ ap (λ (h : ℕ). add_shift 15 (xor_shift 11 h)) c.wrapping_add_u32-x.ensures
+    c.wrapping_add_u32.ensures.value ∙ ap (λ (h : ℕ). add_shift 15 (xor_shift 11 h)) c.wrapping_add_u32-x.ensures.value

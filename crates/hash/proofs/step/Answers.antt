@@ -5,4 +5,5 @@ use Rattle.hash.proofs.step.Goals as goal
 
 pub returns : goal.returns
 unfolding step_of
-returns c = ap (xor_shift 6) (c.wrapping_add_u32-y.ensures ∙ ap (add_shift 10) c.wrapping_add_u32-x.ensures)
+returns c =
+    ap (xor_shift 6) (c.wrapping_add_u32-y.ensures.value ∙ ap (add_shift 10) c.wrapping_add_u32-x.ensures.value)

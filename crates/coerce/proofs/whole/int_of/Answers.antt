@@ -13,7 +13,7 @@ returns-then-is_unsigned c =
 
 pub returns-then-is_signed : goal.returns-then-is_signed
 returns-then-is_signed c =
-    Wholes.int_signed c.args.sheet.now c.args.v c.if-k-eq0.false _ c.is_unsigned.ensures c.if-is_unsigned.false _ c.is_signed.ensures _ _ c.if-is_signed.true c.i64_of_bits32.ensures (Wholes.word_back c.i64_of_bits32.result c.i64_of_bits32.result (record { sfits = c.i64_of_bits32.type-inv }) refl _ c.bits_of_i64.ensures)
+    Wholes.int_signed c.args.sheet.now c.args.v c.if-k-eq0.false _ c.is_unsigned.ensures c.if-is_unsigned.false _ c.is_signed.ensures _ _ c.if-is_signed.true c.i64_of_bits32.ensures (Wholes.word_back c.i64_of_bits32.result c.i64_of_bits32.result (record { sfits = c.i64_of_bits32.type_inv }) refl _ c.bits_of_i64.ensures)
 
 pub returns-then-is_long : goal.returns-then-is_long
 returns-then-is_long c =
@@ -21,7 +21,7 @@ returns-then-is_long c =
 
 pub returns-then-k-eq10 : goal.returns-then-k-eq10
 returns-then-k-eq10 c =
-    Wholes.int_float c.args.sheet.now c.args.v c.if-k-eq0.false _ c.is_unsigned.ensures c.if-is_unsigned.false _ c.is_signed.ensures c.if-is_signed.false _ c.is_long.ensures c.if-is_long.false _ _ c.if-k-eq10.true c.i64_of_f32.ensures (Wholes.word_back c.i64_of_f32.result c.i64_of_f32.result (record { sfits = c.i64_of_f32.type-inv }) refl _ c.bits_of_i64-then-k-eq10.ensures)
+    Wholes.int_float c.args.sheet.now c.args.v c.if-k-eq0.false _ c.is_unsigned.ensures c.if-is_unsigned.false _ c.is_signed.ensures c.if-is_signed.false _ c.is_long.ensures c.if-is_long.false _ _ c.if-k-eq10.true c.i64_of_f32.ensures (Wholes.word_back c.i64_of_f32.result c.i64_of_f32.result (record { sfits = c.i64_of_f32.type_inv }) refl _ c.bits_of_i64-then-k-eq10.ensures)
 
 pub returns-then-k-eq15 : goal.returns-then-k-eq15
 returns-then-k-eq15 c =

@@ -29,13 +29,13 @@ returns-in-Broken c =
 
 pub last_of-f-requires : goal.last_of-f-requires
 last_of-f-requires c =
-    let g = c.s-1.given in
+    
     let o = onward c.args.file.now c.loop-place.c.at c.step-s.result c.step-s.ensures c.in-Section.place c.in-Section.len c.in-Section.next c.in-Section.is in
     omega (arith, o.inside)
 
 pub loop-place-smaller : goal.loop-place-smaller
 loop-place-smaller c =
-    let g = c.s-1.given in
+    
     let o = onward c.args.file.now c.loop-place.c.at c.step-s.result c.step-s.ensures c.in-Section.place c.in-Section.len c.in-Section.next c.in-Section.is in
     omega (arith, o.inside, o.least, o.on, o.here)
 
@@ -43,7 +43,7 @@ pub loop-place-preserved : goal.loop-place-preserved
 loop-place-preserved c =
     let a = c.args in
     let l = c.loop-place in
-    let g = c.s-1.given in
+
     let o = onward a.file.now l.c.at c.step-s.result c.step-s.ensures c.in-Section.place c.in-Section.len c.in-Section.next c.in-Section.is in (
       omega (arith, o.inside, o.on),
       turn a.file.now a.kind a.name l.c.at l.hit l.at l.invariant.1 c.in-Section.place c.in-Section.len c.in-Section.next.at (found_is c.last_of-f.result) o c.last_of-f.ensures _ _

@@ -14,7 +14,7 @@ returns-then-not-is_name c =
 pub overflow_add-result : goal.overflow_add-result
 overflow_add-result c =
     
-    let g = c.r-1.given in
+
     let i = span_in c.args.file.now c.args.place c.args.len c.requires c.is_name.result (c.is_name.ensures.number (omega arith)) (not-false _ c.if-not-is_name.false) _
     (part_is c.args.file.now c.args.place c.args.len) c.read_rows-r.result c.read_rows-r.ensures c.in-Table.root c.in-Table.start c.in-Table.count c.in-Table.is in
     omega (arith, i, c.requires)
@@ -28,6 +28,6 @@ returns-in-Short c =
 pub returns-in-Table : goal.returns-in-Table
 returns-in-Table c =
     
-    let g = c.r-1.given in
+
     span_rows c.args.file.now c.args.place c.args.len c.requires c.is_name.result (c.is_name.ensures.number (omega arith)) (not-false _ c.if-not-is_name.false) _
     (part_is c.args.file.now c.args.place c.args.len) c.read_rows-r.result c.read_rows-r.ensures c.in-Table.root c.in-Table.start c.in-Table.count c.in-Table.is

@@ -26,7 +26,7 @@ returns-in-Broken c =
 
 pub first_of-f-requires : goal.first_of-f-requires
 first_of-f-requires c =
-    let g = c.s-1.given in
+    
     let o = onward c.args.file.now c.loop-place.c.at c.step-s.result c.step-s.ensures c.in-Section.place c.in-Section.len c.in-Section.next c.in-Section.is in
     omega (arith, o.inside)
 
@@ -34,14 +34,14 @@ pub returns-in-At : goal.returns-in-At
 returns-in-At c =
     let a = c.args in
     let l = c.loop-place in
-    let g = c.s-1.given in
+
     let o = onward a.file.now l.c.at c.step-s.result c.step-s.ensures c.in-Section.place c.in-Section.len c.in-Section.next c.in-Section.is in
     found a.file.now a.kind a.name l.c.at l.invariant.1 c.in-Section.place c.in-Section.len c.in-Section.next.at c.first_of-f.result o c.first_of-f.ensures c.in-At.at c.in-At.is
 
 pub loop-place-smaller : goal.loop-place-smaller
 loop-place-smaller c =
     let l = c.loop-place in
-    let g = c.s-1.given in
+
     let o = onward c.args.file.now l.c.at c.step-s.result c.step-s.ensures c.in-Section.place c.in-Section.len c.in-Section.next c.in-Section.is in
     omega (arith, o.inside, o.least, o.on, o.here)
 
@@ -49,6 +49,6 @@ pub loop-place-preserved : goal.loop-place-preserved
 loop-place-preserved c =
     let a = c.args in
     let l = c.loop-place in
-    let g = c.s-1.given in
+
     let o = onward a.file.now l.c.at c.step-s.result c.step-s.ensures c.in-Section.place c.in-Section.len c.in-Section.next c.in-Section.is in
     (omega (arith, o.inside, o.on), goes_on a.file.now a.kind a.name l.c.at l.invariant.1 c.in-Section.place c.in-Section.len c.in-Section.next.at c.first_of-f.result o c.first_of-f.ensures c.in-Nothing.is)

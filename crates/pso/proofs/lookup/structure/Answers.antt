@@ -11,5 +11,5 @@ returns-in-Nothing c =
 
 pub returns-in-At : goal.returns-in-At
 returns-in-At c =
-    let f = c.f-1.given in
+    
     struct_answer c.args.file.now c.args.name c.first-f.result c.first-f.ensures (At c.in-At.at) c.in-At.is _ (rw c.read_head-h.ensures)

@@ -40,7 +40,7 @@ returns-in-Broken c =
 pub see-w-requires : goal.see-w-requires
 see-w-requires c =
     let l = c.loop-body in
-    let g = c.q-1.given in
+
     let o = onward c.args.file.now l.c.at c.step-q.result c.step-q.ensures c.in-Section.place c.in-Section.len c.in-Section.next c.in-Section.is in
     (o.inside, omega (arith, o.here, l.invariant.1))
 
@@ -48,7 +48,7 @@ pub returns-in-Refused : goal.returns-in-Refused
 returns-in-Refused c =
     let F = c.args.file.now in
     let l = c.loop-body in
-    let g = c.q-1.given in
+
     let o = onward F l.c.at c.step-q.result c.step-q.ensures c.in-Section.place c.in-Section.len c.in-Section.next c.in-Section.is in
     refusal_is F c.in-Refused.n
     (parse_refused F c.if-file-lt4.false c.is_name.result (c.is_name.ensures.number (omega arith)) (not-false _ c.if-not-is_name.false) l.c.at l.s l.invariant.2
@@ -57,7 +57,7 @@ returns-in-Refused c =
 pub loop-body-smaller : goal.loop-body-smaller
 loop-body-smaller c =
     let l = c.loop-body in
-    let g = c.q-1.given in
+
     let o = onward c.args.file.now l.c.at c.step-q.result c.step-q.ensures c.in-Section.place c.in-Section.len c.in-Section.next c.in-Section.is in
     omega (arith, o.inside, o.least, o.on, o.here)
 
@@ -65,9 +65,9 @@ pub loop-body-preserved : goal.loop-body-preserved
 loop-body-preserved c =
     let F = c.args.file.now in
     let l = c.loop-body in
-    let g = c.q-1.given in
+
     let o = onward F l.c.at c.step-q.result c.step-q.ensures c.in-Section.place c.in-Section.len c.in-Section.next c.in-Section.is in
-    let w = c.w-in-Next-1.given in (
+    (
       omega (arith, o.inside, o.on),
       omega (arith, o.on, o.here, l.invariant.1, c.see-w.ensures.few c.in-Next.t c.in-Next.is),
       parse_turn F l.c.at c.in-Section.place c.in-Section.len c.in-Section.next.at l.s c.see-w.result l.invariant.2 o.left c.see-w.ensures c.in-Next.t c.in-Next.is,

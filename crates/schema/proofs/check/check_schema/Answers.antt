@@ -26,7 +26,7 @@ returns-in-Broken c =
 
 pub check_section-q-requires : goal.check_section-q-requires
 check_section-q-requires c =
-    let g = c.s-1.given in
+    
     let o = onward c.args.file.now c.loop-place.c.at c.step-s.result c.step-s.ensures c.in-Section.place c.in-Section.len c.in-Section.next c.in-Section.is in
     omega (arith, o.inside)
 
@@ -34,7 +34,7 @@ pub returns-in-Refused : goal.returns-in-Refused
 returns-in-Refused c =
     let F = c.args.file.now in
     let l = c.loop-place in
-    let g = c.s-1.given in
+
     let o = onward F l.c.at c.step-s.result c.step-s.ensures c.in-Section.place c.in-Section.len c.in-Section.next c.in-Section.is in
     refuses F l.c.at l.count l.invariant.2 _ c.in-Section.next.at _ c.check_section-q.result o.left c.check_section-q.ensures c.in-Refused.n c.in-Refused.is
 
@@ -42,7 +42,7 @@ pub overflow_add-count : goal.overflow_add-count
 overflow_add-count c =
     let F = c.args.file.now in
     let l = c.loop-place in
-    let g = c.s-1.given in
+
     let o = onward F l.c.at c.step-s.result c.step-s.ensures c.in-Section.place c.in-Section.len c.in-Section.next c.in-Section.is in
     let f = fewer F l.c.at l.count l.invariant.2 _ c.in-Section.next.at _ c.check_section-q.result o.left c.check_section-q.ensures c.in-Sound.k c.in-Sound.is in
     omega (arith, o.inside, o.whole, f, l.invariant.0, l.invariant.1)
@@ -51,7 +51,7 @@ pub loop-place-smaller : goal.loop-place-smaller
 loop-place-smaller c =
     let F = c.args.file.now in
     let l = c.loop-place in
-    let g = c.s-1.given in
+
     let o = onward F l.c.at c.step-s.result c.step-s.ensures c.in-Section.place c.in-Section.len c.in-Section.next c.in-Section.is in
     omega (arith, o.inside, o.least, o.on, o.here)
 
@@ -59,7 +59,7 @@ pub loop-place-preserved : goal.loop-place-preserved
 loop-place-preserved c =
     let F = c.args.file.now in
     let l = c.loop-place in
-    let g = c.s-1.given in
+
     let o = onward F l.c.at c.step-s.result c.step-s.ensures c.in-Section.place c.in-Section.len c.in-Section.next c.in-Section.is in
     let f = fewer F l.c.at l.count l.invariant.2 _ c.in-Section.next.at _ c.check_section-q.result o.left c.check_section-q.ensures c.in-Sound.k c.in-Sound.is in (
       omega (arith, o.inside, o.on),
