@@ -20,7 +20,6 @@ loop-i-init c = (omega arith, refl)
 pub loop-i-preserved : goal.loop-i-preserved
 unfolding joaat
 loop-i-preserved c =
-    
     (omega arith, turn _ _ c.loop-i.i _ (omega arith) c.loop-i.invariant.1 c.step-h.ensures)
 
 pub returns : goal.returns

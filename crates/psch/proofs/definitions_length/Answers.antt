@@ -7,7 +7,6 @@ use Rattle.psch.proofs.definitions_length.Goals as goal
 
 pub loop-k-init : goal.loop-k-init
 loop-k-init c =
-    
     let a = c.args in
     sum_begin a.schema.now a.work.now a.enums a.names a.count a.from c.requires.1
 

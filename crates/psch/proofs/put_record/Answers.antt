@@ -8,7 +8,6 @@ use Rattle.psch.proofs.put_record.Goals as goal
 
 pub put_definition-requires : goal.put_definition-requires
 put_definition-requires c =
-    
     let a = c.args in
     let f = c.find in
     let d = c.definition_length-len in
@@ -19,7 +18,6 @@ record { lies = stored_lies a.schema.now a.enums a.name f.result f.ensures c.req
 
 pub returns-in-At : goal.returns-in-At
 returns-in-At c =
-    
     let a = c.args in
     let f = c.find in
     let d = c.definition_length-len in
@@ -28,6 +26,5 @@ returns-in-At c =
 
 pub returns-in-Nothing : goal.returns-in-Nothing
 returns-in-Nothing c =
-    
     let a = c.args in
     absurd (stored_found a.schema.now a.enums a.name c.find.result c.find.ensures c.requires.stored c.in-Nothing.is)

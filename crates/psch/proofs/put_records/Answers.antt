@@ -7,7 +7,6 @@ use Rattle.psch.proofs.put_records.Goals as goal
 
 pub loop-k-init : goal.loop-k-init
 loop-k-init c =
-    
     let a = c.args in
     put_begin a.schema.now a.work.now a.enums a.names a.count a.out.now a.index a.to c.requires.count_in_bounds_2.0
 
@@ -25,7 +24,6 @@ overflow_add-index c = omega (arith, c.requires.0, c.loop-k-test.true)
 
 pub put_record-at-requires : goal.put_record-at-requires
 put_record-at-requires c =
-    
     let a = c.args in
     let l = c.loop-k in
     let t = put_turn a.schema.now a.work.now a.enums a.names a.count a.out.now a.index a.to c.requires.every c.requires.count_in_bounds_2.1.0 l.at l.k l.out l.invariant
@@ -40,7 +38,6 @@ loop-k-smaller c = omega (arith, c.loop-k-test.true)
 
 pub loop-k-preserved : goal.loop-k-preserved
 loop-k-preserved c =
-    
     let a = c.args in
     let l = c.loop-k in
     let r = c.put_record-at in
@@ -52,7 +49,6 @@ shape_of-out c = c.loop-k.invariant.long
 
 pub returns : goal.returns
 returns c =
-    
     let a = c.args in
     let l = c.loop-k in
     put_last a.schema.now a.work.now a.enums a.names a.count a.out.now a.index a.to c.requires.every c.requires.count_in_bounds_2.1.0 l.at l.k l.out l.invariant c.loop-k-test.false

@@ -6,7 +6,6 @@ use Rattle.psch.proofs.put_schema.Goals as goal
 
 pub put_records-mid-requires : goal.put_records-mid-requires
 put_records-mid-requires c =
-    
     let a = c.args in
     let z = used_size a.schema.now a.round a.p a.work.now in
     let h = c.requires.0 in
@@ -14,7 +13,6 @@ record { count_in_bounds = omega (arith, h.structs, h.room); every = omega arith
 
 pub put_records-end-requires : goal.put_records-end-requires
 put_records-end-requires c =
-    
     let a = c.args in
     let z = used_size a.schema.now a.round a.p a.work.now in
     let h = c.requires.0 in
@@ -23,31 +21,26 @@ record { count_in_bounds = omega (arith, h.enums, h.room); every = omega (arith,
 
 pub overflow_cast-end : goal.overflow_cast-end
 overflow_cast-end c =
-    
     let a = c.args in
     record { fits = omega (arith, used_size a.schema.now a.round a.p a.work.now, c.put_records-mid.ensures.0, c.put_records-end.ensures.0, c.requires.work_in_bounds.1.1) }
 
 pub head-requires : goal.head-requires
 head-requires c =
-    
     let a = c.args in
     (search rules, omega (arith, used_size a.schema.now a.round a.p a.work.now, c.put_records-mid.auto.out, c.put_records-end.auto.out, c.requires.work_in_bounds.1.0))
 
 pub overflow_cast-n : goal.overflow_cast-n
 overflow_cast-n c =
-    
     let a = c.args in
     record { fits = omega (arith, used_size a.schema.now a.round a.p a.work.now, c.requires.work_in_bounds.1.1) }
 
 pub write_u32-requires : goal.write_u32-requires
 write_u32-requires c =
-    
     let a = c.args in
     omega (arith, used_size a.schema.now a.round a.p a.work.now, c.put_records-mid.auto.out, c.put_records-end.auto.out, c.head.auto.out, c.requires.work_in_bounds.1.0)
 
 pub returns : goal.returns
 returns c =
-    
     let a = c.args in
     let r = c.put_records-mid in
     let q = c.put_records-end in

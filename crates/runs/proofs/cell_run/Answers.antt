@@ -20,7 +20,6 @@ loop-i-init c =
 
 pub overflow_add-stop : goal.overflow_add-stop
 overflow_add-stop c =
-    
     let a = c.args in
     let l = c.loop-i in
     let d = paid_done a.round a.p (run_cost a.stride a.n) c.run_cost.result c.pay.result c.in-Done.s c.run_cost.ensures c.pay.ensures c.in-Done.is in
@@ -30,7 +29,6 @@ overflow_add-stop c =
 
 pub slice_bounds-put_cell-end : goal.slice_bounds-put_cell-end
 slice_bounds-put_cell-end c =
-    
     let a = c.args in
     let l = c.loop-i in
     let d = paid_done a.round a.p (run_cost a.stride a.n) c.run_cost.result c.pay.result c.in-Done.s c.run_cost.ensures c.pay.ensures c.in-Done.is in
@@ -40,7 +38,6 @@ slice_bounds-put_cell-end c =
 
 pub put_cell-requires : goal.put_cell-requires
 put_cell-requires c =
-    
     let a = c.args in
     let l = c.loop-i in
     let d = paid_done a.round a.p (run_cost a.stride a.n) c.run_cost.result c.pay.result c.in-Done.s c.run_cost.ensures c.pay.ensures c.in-Done.is in
@@ -50,7 +47,6 @@ put_cell-requires c =
 
 pub drop_run-requires : goal.drop_run-requires
 drop_run-requires c =
-    
     let a = c.args in
     let l = c.loop-i in
     let d = paid_done a.round a.p (run_cost a.stride a.n) c.run_cost.result c.pay.result c.in-Done.s c.run_cost.ensures c.pay.ensures c.in-Done.is in
@@ -60,7 +56,6 @@ drop_run-requires c =
 
 pub returns-in-Unfit : goal.returns-in-Unfit
 returns-in-Unfit c =
-    
     let a = c.args in
     let l = c.loop-i in
     let d = paid_done a.round a.p (run_cost a.stride a.n) c.run_cost.result c.pay.result c.in-Done.s c.run_cost.ensures c.pay.ensures c.in-Done.is in
@@ -70,7 +65,6 @@ returns-in-Unfit c =
 
 pub returns-in-FloatText : goal.returns-in-FloatText
 returns-in-FloatText c =
-    
     let a = c.args in
     let l = c.loop-i in
     let d = paid_done a.round a.p (run_cost a.stride a.n) c.run_cost.result c.pay.result c.in-Done.s c.run_cost.ensures c.pay.ensures c.in-Done.is in
@@ -85,7 +79,6 @@ overflow_add-i c =
 
 pub loop-i-preserved : goal.loop-i-preserved
 loop-i-preserved c =
-    
     let a = c.args in
     let l = c.loop-i in
     let d = paid_done a.round a.p (run_cost a.stride a.n) c.run_cost.result c.pay.result c.in-Done.s c.run_cost.ensures c.pay.ensures c.in-Done.is in
@@ -95,13 +88,11 @@ loop-i-preserved c =
 
 pub returns-in-Refused : goal.returns-in-Refused
 returns-in-Refused c =
-    
     let a = c.args in
     run_too_dear any_schema a.round (length a.work.now) a.p a.work.now a.stride 0 a.n (λ S r. cell_element a.sheet.now a.schema.now a.cell a.stride r) (rows_from a.first a.n) a.sheet.now a.block 0 (length_rows_from a.first a.n) (omega arith) c.run_cost.result c.pay.result c.in-Refused.k c.in-Refused.q c.requires.safe c.run_cost.ensures c.pay.ensures c.in-Refused.is
 
 pub returns-after-loop-i : goal.returns-after-loop-i
 returns-after-loop-i c =
-    
     let a = c.args in
     let l = c.loop-i in
     let d = paid_done a.round a.p (run_cost a.stride a.n) c.run_cost.result c.pay.result c.in-Done.s c.run_cost.ensures c.pay.ensures c.in-Done.is in

@@ -21,7 +21,6 @@ loop-i-init c =
 
 pub overflow_add-q : goal.overflow_add-q
 overflow_add-q c =
-    
     let a = c.args in
     let l = c.loop-i in
     let d = paid_done a.round a.p (run_cost (slot_size a.sub) a.n) c.run_cost.result c.pay.result c.in-Done.s (c.run_cost.ensures ∙ ap (λ (x : ℕ). 16 + x * a.n) c.slot_size-stride.ensures.0) c.pay.ensures c.in-Done.is in
@@ -30,7 +29,6 @@ overflow_add-q c =
 
 pub text_slot-requires : goal.text_slot-requires
 text_slot-requires c =
-    
     let a = c.args in
     let l = c.loop-i in
     let d = paid_done a.round a.p (run_cost (slot_size a.sub) a.n) c.run_cost.result c.pay.result c.in-Done.s (c.run_cost.ensures ∙ ap (λ (x : ℕ). 16 + x * a.n) c.slot_size-stride.ensures.0) c.pay.ensures c.in-Done.is in
@@ -40,7 +38,6 @@ record { safe = rw l.invariant.1 h; round_bound = (omega (arith, (l.invariant.2 
 
 pub returns-in-Refused-text_slot : goal.returns-in-Refused-text_slot
 returns-in-Refused-text_slot c =
-    
     let a = c.args in
     let l = c.loop-i in
     let d = paid_done a.round a.p (run_cost (slot_size a.sub) a.n) c.run_cost.result c.pay.result c.in-Done.s (c.run_cost.ensures ∙ ap (λ (x : ℕ). 16 + x * a.n) c.slot_size-stride.ensures.0) c.pay.ensures c.in-Done.is in
@@ -52,20 +49,17 @@ overflow_add-i c = record { fits = omega (arith, c.loop-i-test.true, c.ranges.n.
 
 pub loop-i-preserved : goal.loop-i-preserved
 loop-i-preserved c =
-    
     let a = c.args in
     let l = c.loop-i in
     (omega (arith, c.loop-i-test.true), c.work-1.given ∙ l.invariant.1, λ r. texts_turn a.round (length a.work.now) c.in-Done.s a.work.now a.sheet.now a.sub a.first a.n l.q l.work l.i r (l.invariant.2 r) c.loop-i-test.true c.slot_size-stride.result c.slot_size-stride.ensures.0 c.read_row-v.result c.read_row-v.ensures c.str_of.result.now c.str_of.ensures (length l.work) l.invariant.1 c.in-Done-text_slot.t c.text_slot.result c.text_slot.new.work c.in-Done-text_slot.is c.text_slot.ensures)
 
 pub returns-in-Refused : goal.returns-in-Refused
 returns-in-Refused c =
-    
     let a = c.args in
     run_too_dear any_schema a.round (length a.work.now) a.p a.work.now (slot_size a.sub) 0 a.n (λ S r. text_element (env_of a.sheet.now S a.round) a.sub r) (rows_from a.first a.n) a.sheet.now (slot_block a.sub) 0 (length_rows_from a.first a.n) (omega arith) c.run_cost.result c.pay.result c.in-Refused.k c.in-Refused.q c.requires (c.run_cost.ensures ∙ ap (λ (x : ℕ). 16 + x * a.n) c.slot_size-stride.ensures.0) c.pay.ensures c.in-Refused.is
 
 pub returns-after-loop-i : goal.returns-after-loop-i
 returns-after-loop-i c =
-    
     let a = c.args in
     let l = c.loop-i in
     let d = paid_done a.round a.p (run_cost (slot_size a.sub) a.n) c.run_cost.result c.pay.result c.in-Done.s (c.run_cost.ensures ∙ ap (λ (x : ℕ). 16 + x * a.n) c.slot_size-stride.ensures.0) c.pay.ensures c.in-Done.is in

@@ -12,7 +12,6 @@ loop-k-init c = let a = c.args in (search rules, seek_begin a.work.now a.n a.nam
 -- a block of another name
 pub loop-k-preserved-then-read_u32-name : goal.loop-k-preserved-then-read_u32-name
 loop-k-preserved-then-read_u32-name c =
-    
     let a = c.args in (
       search rules,
       seek_on a.work.now a.n a.name a.need c.loop-k.k c.loop-k-test.true c.loop-k.invariant.1 (λ g. absurd (c.if-read_u32-name.true (c.read_u32.ensures ∙ g))),
@@ -21,7 +20,6 @@ loop-k-preserved-then-read_u32-name c =
 -- a block without room
 pub loop-k-preserved : goal.loop-k-preserved
 loop-k-preserved c =
-    
     let a = c.args in (
       search rules,
       seek_on a.work.now a.n a.name a.need c.loop-k.k c.loop-k-test.true c.loop-k.invariant.1 (λ g. rw (← c.read_u32-len.ensures) c.if-len-need-gt1048576.true),
@@ -30,7 +28,6 @@ loop-k-preserved c =
 -- the block takes it
 pub returns-in-loop-k : goal.returns-in-loop-k
 returns-in-loop-k c =
-    
     let a = c.args in
     let z =
     seek_here a.work.now a.n a.name a.need c.loop-k.k c.loop-k-test.true c.loop-k.invariant.1 (sym c.read_u32.ensures ∙ c.if-read_u32-name.false)
@@ -40,7 +37,6 @@ returns-in-loop-k c =
 -- no block takes it
 pub returns : goal.returns
 returns c =
-    
     let a = c.args in
     let z = seek_none a.work.now a.n a.name a.need c.loop-k.k c.loop-k.invariant.0 c.loop-k-test.false c.loop-k.invariant.1 in
     record { before = omega arith; start = omega arith; is = (sym z.0, sym z.1) }

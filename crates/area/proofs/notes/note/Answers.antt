@@ -8,33 +8,28 @@ use Rattle.area.proofs.notes.note.Goals as goal
 
 pub returns-then-p : goal.returns-then-p
 returns-then-p c =
-    
     let a = c.args in
     note_late a.round (length a.work.now) a.p a.work.now a.r c.requires c.if-p.true
 
 pub returns-then-p-round : goal.returns-then-p-round
 returns-then-p-round c =
-    
     let a = c.args in
     note_known a.round (length a.work.now) a.p a.work.now a.r c.requires c.if-p.false (rw (lt-ltb a.p.seen a.round.skip c.if-p-round.true))
 
 pub returns-then-remarked : goal.returns-then-remarked
 returns-then-remarked c =
-    
     let a = c.args in
     note_known a.round (length a.work.now) a.p a.work.now a.r c.requires c.if-p.false
     (rw (le-ltb a.p.seen a.round.skip c.if-p-round.false) (sym c.remarked.ensures ∙ c.if-remarked.true))
 
 pub returns-then-n-ge1024 : goal.returns-then-n-ge1024
 returns-then-n-ge1024 c =
-    
     let a = c.args in
     note_full a.round (length a.work.now) a.p a.work.now a.r c.requires c.if-p.false
     (rw (le-ltb a.p.seen a.round.skip c.if-p-round.false) (sym c.remarked.ensures ∙ c.if-remarked.false)) c.if-n-ge1024.true
 
 pub returns : goal.returns
 returns c =
-    
     let a = c.args in
     let g = c.well_formed.1.1.1.0.1.1 in
     rw c.write_four.ensures

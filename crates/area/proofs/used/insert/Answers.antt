@@ -15,14 +15,12 @@ returns-then-contains c = record { few = c.requires.0; exact = rw (sym c.contain
 pub returns-then-room-n : goal.returns-then-room-n
 unfolding inserted_in
 returns-then-room-n c =
-    
     record { few = c.requires.0; exact = rw (sym c.contains.ensures ∙ c.if-contains.false, le-leb c.args.room c.args.n c.if-room-n.true) }
 
 -- it is put behind them
 pub returns : goal.returns
 unfolding inserted_in
 returns c =
-    
     let a = c.args in
     record {
       few = omega arith;

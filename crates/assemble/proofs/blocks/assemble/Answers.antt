@@ -11,7 +11,6 @@ use Rattle.assemble.proofs.blocks.assemble.Goals as goal
 
 pub fill_table-size-requires : goal.fill_table-size-requires
 fill_table-size-requires c =
-    
     let a = c.args in
     let k = c.requires.core in
     let w = c.requires.held in
@@ -19,7 +18,6 @@ record { some_rows = record { blocks = k.blocks; held = w.blocks }; count_bound 
 
 pub write_data-requires : goal.write_data-requires
 write_data-requires c =
-    
     let a = c.args in
     let k = c.requires.core in
     let w = c.requires.held in
@@ -29,7 +27,6 @@ write_data-requires c =
 
 pub write_map-requires : goal.write_map-requires
 write_map-requires c =
-    
     let a = c.args in
     let k = c.requires.core in
     let w = c.requires.held in

@@ -18,7 +18,6 @@ loop-k-init c =
 
 pub table_row-place-requires : goal.table_row-place-requires
 table_row-place-requires c =
-    
     let a = c.args in
     let l = c.loop-k in
     let k = c.loop-k.k in
@@ -28,7 +27,6 @@ table_row-place-requires c =
 
 pub loop-k-preserved : goal.loop-k-preserved
 loop-k-preserved c =
-    
     let a = c.args in
     let l = c.loop-k in
     let k = c.loop-k.k in

@@ -18,7 +18,6 @@ loop-k-init c =
 
 pub overflow_add-rows : goal.overflow_add-rows
 overflow_add-rows c =
-    
     let a = c.args in
     let l = c.loop-k in
     let bs = c.requires.some_rows.blocks in
@@ -28,7 +27,6 @@ overflow_add-rows c =
 
 pub map_row-place-requires : goal.map_row-place-requires
 map_row-place-requires c =
-    
     let a = c.args in
     let l = c.loop-k in
     let k = c.loop-k.k in
@@ -38,7 +36,6 @@ map_row-place-requires c =
 
 pub loop-k-preserved : goal.loop-k-preserved
 loop-k-preserved c =
-    
     let a = c.args in
     let l = c.loop-k in
     let k = c.loop-k.k in

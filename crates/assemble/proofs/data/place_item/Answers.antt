@@ -6,7 +6,6 @@ use Rattle.assemble.proofs.data.place_item.Goals as goal
 
 pub copy_part-requires : goal.copy_part-requires
 copy_part-requires c =
-    
     let a = c.args in
     inside a.work.now a.pos a.table
     c.read_u32-block.result c.read_u32-start.result c.read_u32-len.result c.read_u32-place.result

@@ -15,7 +15,6 @@ loop-pos-init c =
 
 pub place_item-pos-requires : goal.place_item-pos-requires
 place_item-pos-requires c =
-    
     let a = c.args in
     let l = c.loop-pos in
     subst (λ n. Turn a.work.now a.table n l.pos) (sym l.invariant.0)

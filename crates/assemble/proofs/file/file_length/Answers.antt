@@ -12,7 +12,6 @@ use Rattle.assemble.proofs.file.file_length.Goals as goal
 
 pub returns : goal.returns
 returns c =
-    
     let a = c.args in
     let d = c.data_length-data in
     let n = c.definitions_length-structs in record { value = c.definitions_length.ensures.2

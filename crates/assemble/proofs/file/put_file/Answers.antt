@@ -12,7 +12,6 @@ use Rattle.assemble.proofs.file.put_file.Goals as goal
 
 pub assemble-end-requires : goal.assemble-end-requires
 assemble-end-requires c =
-    
     let a = c.args in
     let g = c.requires.some_fitting in
     let f = c.requires.some_fitting.fitting in
@@ -20,7 +19,6 @@ assemble-end-requires c =
 
 pub slice_bounds-put_schema-count : goal.slice_bounds-put_schema-count
 slice_bounds-put_schema-count c =
-    
     let a = c.args in
     let g = c.requires.some_fitting in
     let f = c.requires.some_fitting.fitting in
@@ -31,7 +29,6 @@ slice_bounds-put_schema-count c =
 
 pub slice_bounds-put_schema-start : goal.slice_bounds-put_schema-start
 slice_bounds-put_schema-start c =
-    
     let a = c.args in
     let g = c.requires.some_fitting in
     let f = c.requires.some_fitting.fitting in
@@ -42,7 +39,6 @@ slice_bounds-put_schema-start c =
 
 pub put_schema-requires : goal.put_schema-requires
 put_schema-requires c =
-    
     let a = c.args in
     let g = c.requires.some_fitting in
     let f = c.requires.some_fitting.fitting in

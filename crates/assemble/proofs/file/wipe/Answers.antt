@@ -6,7 +6,6 @@ use Rattle.assemble.proofs.file.wipe.Goals as goal
 
 pub returns : goal.returns
 returns c =
-    
     let a = c.args in
     let n = length a.work.now in
     let q = parts_wiped a.round n a.p c.requires a.work.now c.wipe_rows.new.work c.wipe_names.new.work c.clear.new.s c.clear-2.new.s

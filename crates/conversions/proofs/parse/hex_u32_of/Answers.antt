@@ -24,17 +24,14 @@ enum_told-1 c = search rules
 pub returns-then-n-le4294967295 : goal.returns-then-n-le4294967295
 unfolding unsigned
 returns-then-n-le4294967295 c =
-    
     word (unsigned 32 16 c.args.s.now) _ _ (c.read_digits.ensures ∙ ap (λ (l : List ℕ). number_is (digits 16 (2 ^ 32 - 1) l)) c.after_plus.ensures) c.in-Value.is
 
 pub returns-else-n-le4294967295 : goal.returns-else-n-le4294967295
 unfolding unsigned
 returns-else-n-le4294967295 c =
-    
     absurd (omega (arith, up_le (2 ^ 32 - 1) (plain 16 c.after_plus.result.now) _ _ c.read_digits.ensures c.in-Value.is))
 
 pub returns-in-Bad : goal.returns-in-Bad
 unfolding unsigned
 returns-in-Bad c =
-    
     word_bad (unsigned 32 16 c.args.s.now) _ (c.read_digits.ensures ∙ ap (λ (l : List ℕ). number_is (digits 16 (2 ^ 32 - 1) l)) c.after_plus.ensures) c.in-Bad.is

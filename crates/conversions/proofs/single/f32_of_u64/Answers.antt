@@ -25,9 +25,6 @@ shifted (suc k) r n h e =
     let f : r ≡ round40 (suc k * 2 ^ count_leading_zeros 64 (suc k)) = e ∙ ap round40 (mod-eq_of_lt v.n_high) in
     (omega (arith, f, round40_le (suc k * 2 ^ count_leading_zeros 64 (suc k)) v.n_high), ap (λ (x : ℕ). (189 - count_leading_zeros 64 (suc k)) * 2 ^ 23 + x) f)
 
-shifted_of : (c : tie.After-round-even) → Shifted c.before.before.args.m c.round-even.result
-shifted_of c = shifted c.before.before.args.m c.round-even.result c.before.if1.false c.before.before.ranges.m.fits c.round-even.ensures
-
 pub returns-then-m-eq0 : goal.returns-then-m-eq0
 unfolding mag_of
 returns-then-m-eq0 c = rw c.if-m-eq0.true
@@ -50,12 +47,12 @@ overflow_mul-result c = search rules
 
 pub overflow_cast-result : goal.overflow_cast-result
 unfolding mag_of
-overflow_cast-result c = omega (arith, (shifted_of c).0)
+overflow_cast-result c = omega (arith, (shifted c.args.m c.round_even-c.result c.if-m-eq0.false c.ranges.m.fits c.round_even-c.ensures).0)
 
 pub overflow_add-result : goal.overflow_add-result
 unfolding mag_of
-overflow_add-result c = omega (arith, (shifted_of c).0, leading_le 64 c.args.m)
+overflow_add-result c = omega (arith, (shifted c.args.m c.round_even-c.result c.if-m-eq0.false c.ranges.m.fits c.round_even-c.ensures).0, leading_le 64 c.args.m)
 
 pub returns : goal.returns
 unfolding mag_of
-returns c = (shifted_of c).1
+returns c = (shifted c.args.m c.round_even-c.result c.if-m-eq0.false c.ranges.m.fits c.round_even-c.ensures).1

@@ -62,14 +62,12 @@ difference-requires-else-x-lt0 c =
 
 pub returns-then-x-lt0 : goal.returns-then-x-lt0
 returns-then-x-lt0 c =
-    
     let s = c.ranges.x in
     below _ _ _ _ s c.magnitude-m.ensures c.f32_of_u64.ensures c.whole_of-w.ensures
     (is_below s c.if-x-lt0.true) c.difference.result (record { sfits = c.difference.type_inv }) c.difference.ensures
 
 pub returns-else-x-lt0 : goal.returns-else-x-lt0
 returns-else-x-lt0 c =
-    
     let s = c.ranges.x in
     above _ _ _ _ s c.magnitude-m.ensures c.f32_of_u64.ensures c.whole_of-w.ensures
     (is_above s c.if-x-lt0.false) c.difference-else-x-lt0.result (record { sfits = c.difference-else-x-lt0.type_inv }) c.difference-else-x-lt0.ensures

@@ -29,13 +29,11 @@ returns-in-Broken c =
 
 pub last_of-f-requires : goal.last_of-f-requires
 last_of-f-requires c =
-    
     let o = onward c.args.file.now c.loop-place.c.at c.step-s.result c.step-s.ensures c.in-Section.place c.in-Section.len c.in-Section.next c.in-Section.is in
     omega (arith, o.inside)
 
 pub loop-place-smaller : goal.loop-place-smaller
 loop-place-smaller c =
-    
     let o = onward c.args.file.now c.loop-place.c.at c.step-s.result c.step-s.ensures c.in-Section.place c.in-Section.len c.in-Section.next c.in-Section.is in
     omega (arith, o.inside, o.least, o.on, o.here)
 

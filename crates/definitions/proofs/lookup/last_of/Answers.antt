@@ -14,7 +14,7 @@ pub returns-then-not-is_name : goal.returns-then-not-is_name
 unfolding last_of
 returns-then-not-is_name c =
     let a = c.args in
-    ap (λ l. map_option (a.place +◌) (last_of l)) (other_section a.file.now a.place a.len a.kind a.name c.is_name.result (c.is_name.ensures.number (omega arith)) (not-true _ c.if-not-is_name.true))
+    ap (λ l. map_option (a.place +◌) (last_of l)) (other_section a.file.now a.place a.len a.kind a.name c.is_name.result (c.is_name.ensures.number (omega arith)) c.if-not-is_name.true)
 
 pub overflow_add-stop : goal.overflow_add-stop
 unfolding last_of
@@ -36,5 +36,5 @@ pub returns : goal.returns
 unfolding last_of
 returns c =
     let a = c.args in
-    c.last_in.ensures ∙ ap (λ l. map_option (a.place +◌) (last_of l)) (psch_section a.file.now a.place a.len a.kind a.name c.is_name.result (c.is_name.ensures.number (omega arith)) (not-false _ c.if-not-is_name.false) _
+    c.last_in.ensures ∙ ap (λ l. map_option (a.place +◌) (last_of l)) (psch_section a.file.now a.place a.len a.kind a.name c.is_name.result (c.is_name.ensures.number (omega arith)) c.if-not-is_name.false _
     (part_is a.file.now a.place a.len))

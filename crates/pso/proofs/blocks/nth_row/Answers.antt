@@ -26,7 +26,6 @@ returns-in-Broken c =
 
 pub span_of-w-requires : goal.span_of-w-requires
 span_of-w-requires c =
-    
     let o = onward c.args.file.now c.loop-place.c.at c.step-q.result c.step-q.ensures c.in-Section.place c.in-Section.len c.in-Section.next c.in-Section.is in
     omega (arith, o.inside)
 
@@ -49,7 +48,6 @@ returns-then-k-count c =
 
 pub loop-place-smaller : goal.loop-place-smaller
 loop-place-smaller c =
-    
     let o = onward c.args.file.now c.loop-place.c.at c.step-q.result c.step-q.ensures c.in-Section.place c.in-Section.len c.in-Section.next c.in-Section.is in
     omega (arith, o.inside, o.least, o.on, o.here)
 

@@ -26,7 +26,6 @@ returns-in-Broken c =
 
 pub first_of-f-requires : goal.first_of-f-requires
 first_of-f-requires c =
-    
     let o = onward c.args.file.now c.loop-place.c.at c.step-s.result c.step-s.ensures c.in-Section.place c.in-Section.len c.in-Section.next c.in-Section.is in
     omega (arith, o.inside)
 

@@ -14,7 +14,7 @@ pub returns-then-not-is_name : goal.returns-then-not-is_name
 unfolding first_of
 returns-then-not-is_name c =
     let a = c.args in
-    ap (λ l. map_option (a.place +◌) (first_of l)) (other_section a.file.now a.place a.len a.kind a.name c.is_name.result (c.is_name.ensures.number (omega arith)) (not-true _ c.if-not-is_name.true))
+    ap (λ l. map_option (a.place +◌) (first_of l)) (other_section a.file.now a.place a.len a.kind a.name c.is_name.result (c.is_name.ensures.number (omega arith)) c.if-not-is_name.true)
 
 pub overflow_add-stop : goal.overflow_add-stop
 unfolding first_of
@@ -36,5 +36,5 @@ pub returns : goal.returns
 unfolding first_of
 returns c =
     let a = c.args in
-    c.first_in.ensures ∙ ap (λ l. map_option (a.place +◌) (first_of l)) (psch_section a.file.now a.place a.len a.kind a.name c.is_name.result (c.is_name.ensures.number (omega arith)) (not-false _ c.if-not-is_name.false) _
+    c.first_in.ensures ∙ ap (λ l. map_option (a.place +◌) (first_of l)) (psch_section a.file.now a.place a.len a.kind a.name c.is_name.result (c.is_name.ensures.number (omega arith)) c.if-not-is_name.false _
     (part_is a.file.now a.place a.len))

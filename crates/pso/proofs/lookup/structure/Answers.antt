@@ -11,5 +11,4 @@ returns-in-Nothing c =
 
 pub returns-in-At : goal.returns-in-At
 returns-in-At c =
-    
     struct_answer c.args.file.now c.args.name c.first-f.result c.first-f.ensures (At c.in-At.at) c.in-At.is _ (rw c.read_head-h.ensures)

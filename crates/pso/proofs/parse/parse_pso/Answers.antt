@@ -14,7 +14,7 @@ returns-then-file-lt4 c = refusal_is c.args.file.now 15 (no_name c.args.file.now
 
 pub returns-then-not-is_name : goal.returns-then-not-is_name
 returns-then-not-is_name c =
-    refusal_is c.args.file.now 15 (bad_name c.args.file.now c.if-file-lt4.false c.is_name.result (c.is_name.ensures.number (omega arith)) (not-true _ c.if-not-is_name.true))
+    refusal_is c.args.file.now 15 (bad_name c.args.file.now c.if-file-lt4.false c.is_name.result (c.is_name.ensures.number (omega arith)) c.if-not-is_name.true)
 
 pub loop-body-init : goal.loop-body-init
 loop-body-init c =
@@ -26,7 +26,7 @@ returns-in-End c =
     let l = c.loop-body in
     let t = ended F l.c.at c.step-q.result c.step-q.ensures c.in-End.is in
     answer_is F l.c.at l.s l.invariant.3 t c.finish.result c.finish.ensures
-    (parse_end F c.if-file-lt4.false c.is_name.result (c.is_name.ensures.number (omega arith)) (not-false _ c.if-not-is_name.false) l.c.at l.s l.invariant.2
+    (parse_end F c.if-file-lt4.false c.is_name.result (c.is_name.ensures.number (omega arith)) c.if-not-is_name.false l.c.at l.s l.invariant.2
     t c.finish.result c.finish.ensures)
 
 pub returns-in-Broken : goal.returns-in-Broken
@@ -34,7 +34,7 @@ returns-in-Broken c =
     let F = c.args.file.now in
     let l = c.loop-body in
     refusal_is F 4
-    (parse_broken F c.if-file-lt4.false c.is_name.result (c.is_name.ensures.number (omega arith)) (not-false _ c.if-not-is_name.false) l.c.at l.s l.invariant.2
+    (parse_broken F c.if-file-lt4.false c.is_name.result (c.is_name.ensures.number (omega arith)) c.if-not-is_name.false l.c.at l.s l.invariant.2
     (broke F l.c.at c.step-q.result c.step-q.ensures c.in-Broken.is))
 
 pub see-w-requires : goal.see-w-requires
@@ -51,7 +51,7 @@ returns-in-Refused c =
 
     let o = onward F l.c.at c.step-q.result c.step-q.ensures c.in-Section.place c.in-Section.len c.in-Section.next c.in-Section.is in
     refusal_is F c.in-Refused.n
-    (parse_refused F c.if-file-lt4.false c.is_name.result (c.is_name.ensures.number (omega arith)) (not-false _ c.if-not-is_name.false) l.c.at l.s l.invariant.2
+    (parse_refused F c.if-file-lt4.false c.is_name.result (c.is_name.ensures.number (omega arith)) c.if-not-is_name.false l.c.at l.s l.invariant.2
     c.in-Section.place c.in-Section.len c.in-Section.next.at c.see-w.result o.left c.see-w.ensures c.in-Refused.n c.in-Refused.is)
 
 pub loop-body-smaller : goal.loop-body-smaller

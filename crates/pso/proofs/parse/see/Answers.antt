@@ -23,7 +23,6 @@ with_map-requires c =
 
 pub returns-then-is_name-2 : goal.returns-then-is_name-2
 returns-then-is_name-2 c =
-    
     let a = c.args in
     see_map a.file.now a.place a.len a.s c.is_name.result (c.is_name.ensures.number (omega arith)) c.if-is_name.false
     c.is_name-2.result (c.is_name-2.ensures.number (omega arith)) (part_length a.file.now a.place a.len c.requires.0) c.if-is_name-2.true _

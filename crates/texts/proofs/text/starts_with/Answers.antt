@@ -15,13 +15,11 @@ loop-i-init c = (omega arith, refl)
 
 pub returns-then-p-i : goal.returns-then-p-i
 returns-then-p-i c =
-    
     let a = c.args in
     sym (differ a.p.now a.s.now c.loop-i.i (omega arith) (omega arith) c.if-p-i.true) ∙ c.loop-i.invariant.1
 
 pub loop-i-preserved : goal.loop-i-preserved
 loop-i-preserved c =
-    
     let a = c.args in
     (omega arith, sym (step a.p.now a.s.now c.loop-i.i (omega arith) (omega arith) c.if-p-i.false) ∙ c.loop-i.invariant.1)
 

@@ -16,14 +16,12 @@ is_parting-requires c = tt
 
 pub returns-then-is_parting : goal.returns-then-is_parting
 returns-then-is_parting c =
-    
     let t = sym c.is_parting.ensures ∙ c.if-is_parting.true in
     let s = c.args.s.now in
     (omega (arith, Splits.until_here s c.loop-i.i (omega arith) t, c.loop-i.invariant.1), omega arith)
 
 pub loop-i-preserved : goal.loop-i-preserved
 loop-i-preserved c =
-    
     let t = sym c.is_parting.ensures ∙ c.if-is_parting.false in
     let s = c.args.s.now in
     (omega arith, omega (arith, Splits.until_next s c.loop-i.i (omega arith) t, c.loop-i.invariant.1))

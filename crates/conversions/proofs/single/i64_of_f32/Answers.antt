@@ -10,8 +10,7 @@ use borrow.Author.Rules.{rules}
 use Rattle.conversions.specs.Single.{low, inf}
 use Rattle.conversions.specs.Trunc.{whole, i64_of}
 use Rattle.conversions.proofs.Trunc.{whole_under, whole_over, i64_of_nan, i64_of_plus, i64_of_minus, sfits_neg, minus_is_law, minus_read}
-use Rattle.conversions.proofs.single.i64_of_f32.Statement.{statement}
-use Rattle.conversions.proofs.single.i64_of_f32.Tie as tie
+use Rattle.conversions.proofs.single.i64_of_f32.Goals as goal
 
 small : (p r : ℕ) → r ≡ whole p → p < 190 * 2 ^ 23 → r < 2 ^ 63
 small p r e h = rw e (whole_under p h)
@@ -40,23 +39,35 @@ module _ (b : ℕ) (n : low b ≤ inf) where
       let m : 2 ^ 63 ≡ min (whole (low b)) (2 ^ 63) = omega (arith, whole_over (low b) l) in
       ap (λ (x : ℕ). neg_ℤ (pos x)) m ∙ sym (i64_of_minus b n h)
 
-pub i64_of_f32_spec : {M : Type 1} → statement M
-i64_of_f32_spec =
-    tie.close
-    (tie.spec
-    (λ c. i64_of_nan c.before.args.b c.if1.true) (λ c κs. search rules)
-    (λ c. record { sfits = small _ _ c.whole_of.ensures (omega arith) })
-    (λ c.
-    let b = c.before.before.before.before.args.b in
-    plus b _ c.before.before.before.if1.false c.before.before.if2.true (omega arith) c.whole_of.ensures)
-    (λ c κs. search rules) (λ c. record { sfits = small _ _ c.whole-of2.ensures (omega arith) })
-    (λ c. let h = small _ _ c.whole-of2.ensures (omega arith) in rw (minus_is_law c.whole-of2.result h) (sfits_neg c.whole-of2.result h))
-    (λ c.
-    let b = c.before.before.before.before.args.b in
-    minus b _ c.before.before.before.if1.false c.before.before.if2.false (omega arith) c.whole-of2.ensures)
-    (λ c.
-    let b = c.before.before.before.args.b in
-    plus_end b c.before.before.if1.false c.before.if2.true (omega arith))
-    (λ c.
-    let b = c.before.before.before.args.b in
-    minus_end b c.before.before.if1.false c.before.if2.false (omega arith)))
+pub returns-then-p-gt2139095040 : goal.returns-then-p-gt2139095040
+returns-then-p-gt2139095040 c = i64_of_nan c.args.b c.if-p-gt2139095040.true
+
+pub overflow_cast-result : goal.overflow_cast-result
+overflow_cast-result c = record { sfits = small _ _ c.whole_of.ensures (omega arith) }
+
+pub returns-then-p-lt1593835520 : goal.returns-then-p-lt1593835520
+returns-then-p-lt1593835520 c =
+    let b = c.args.b in
+    plus b _ c.if-p-gt2139095040.false c.if-b-lt2147483648.true (omega arith) c.whole_of.ensures
+
+pub overflow_cast-result-then-p-lt1593835520-2 : goal.overflow_cast-result-then-p-lt1593835520-2
+overflow_cast-result-then-p-lt1593835520-2 c = record { sfits = small _ _ c.whole_of-then-p-lt1593835520-2.ensures (omega arith) }
+
+pub overflow_sub-result : goal.overflow_sub-result
+overflow_sub-result c =
+    let h = small _ _ c.whole_of-then-p-lt1593835520-2.ensures (omega arith) in rw (minus_is_law c.whole_of-then-p-lt1593835520-2.result h) (sfits_neg c.whole_of-then-p-lt1593835520-2.result h)
+
+pub returns-then-p-lt1593835520-2 : goal.returns-then-p-lt1593835520-2
+returns-then-p-lt1593835520-2 c =
+    let b = c.args.b in
+    minus b _ c.if-p-gt2139095040.false c.if-b-lt2147483648.false (omega arith) c.whole_of-then-p-lt1593835520-2.ensures
+
+pub returns-else-p-lt1593835520 : goal.returns-else-p-lt1593835520
+returns-else-p-lt1593835520 c =
+    let b = c.args.b in
+    plus_end b c.if-p-gt2139095040.false c.if-b-lt2147483648.true (omega arith)
+
+pub returns-else-p-lt1593835520-2 : goal.returns-else-p-lt1593835520-2
+returns-else-p-lt1593835520-2 c =
+    let b = c.args.b in
+    minus_end b c.if-p-gt2139095040.false c.if-b-lt2147483648.false (omega arith)
