@@ -19,7 +19,7 @@ returns-then-not-sits c =
     let l = c.loop-v in
     let v = c.read_row-v in
     sym (Laws.walk_off a.sheet.now a.n l.r l.w v.result c.requires.0 (v.ensures ∙ ap (Rows.row a.sheet.now) c.count_of-in-loop-v.ensures) (omega (arith, c.loop-v-test.true, c.count_of.ensures))
-    (sym c.sits.ensures ∙ not-true _ c.if-not-sits.true)) ∙ l.invariant.4
+    (sym c.sits.ensures ∙ c.if-not-sits.true)) ∙ l.invariant.4
 
 pub names_fit-requires : goal.names_fit-requires
 names_fit-requires c = omega (arith, c.count_of-in-loop-v-2.ensures, c.loop-v.invariant.1)
@@ -30,13 +30,13 @@ returns-then-not-names_fit c =
     let l = c.loop-v in
     let v = c.read_row-v in
     sym (Laws.walk_named a.sheet.now a.n l.r l.w v.result c.requires.0 (v.ensures ∙ ap (Rows.row a.sheet.now) c.count_of-in-loop-v.ensures) (omega (arith, c.loop-v-test.true, c.count_of.ensures))
-    (ap (λ x. Layout.names_fit a.sheet.now x v.result) (sym c.count_of-in-loop-v-2.ensures) ∙ sym c.names_fit.ensures ∙ not-true _ c.if-not-names_fit.true)) ∙ l.invariant.4
+    (ap (λ x. Layout.names_fit a.sheet.now x v.result) (sym c.count_of-in-loop-v-2.ensures) ∙ sym c.names_fit.ensures ∙ c.if-not-names_fit.true)) ∙ l.invariant.4
 
 pub after-w-requires : goal.after-w-requires
 after-w-requires c =
     let a = c.args in
     let l = c.loop-v in
-    (omega (arith, l.invariant.2), omega (arith, Laws.sits_sum a.n l.r l.w c.read_row-v.result (sym c.sits.ensures ∙ not-false _ c.if-not-sits.false), c.requires.1), omega (arith, l.invariant.3, l.invariant.0, c.requires.1))
+    (omega (arith, l.invariant.2), omega (arith, Laws.sits_sum a.n l.r l.w c.read_row-v.result (sym c.sits.ensures ∙ c.if-not-sits.false), c.requires.1), omega (arith, l.invariant.3, l.invariant.0, c.requires.1))
 
 pub loop-v-smaller : goal.loop-v-smaller
 loop-v-smaller c = omega (arith, c.loop-v-test.true, c.count_of.ensures)
@@ -48,7 +48,7 @@ loop-v-preserved c =
     let v = c.read_row-v in
     let x = c.after-w.result in
     let e = c.after-w.ensures.0 in
-    let t = sym c.sits.ensures ∙ not-false _ c.if-not-sits.false in
+    let t = sym c.sits.ensures ∙ c.if-not-sits.false in
     let m = Laws.sits_claimed a.n l.r l.w v.result t x e in
     let h = c.loop-v-test.true in (
       omega (arith, h, c.count_of.ensures),
@@ -56,7 +56,7 @@ loop-v-preserved c =
       Laws.sits_level a.n l.r l.w v.result t x e,
       omega (arith, c.after-w.ensures.1, l.invariant.3),
       sym (Laws.walk_next a.sheet.now a.n l.r l.w v.result c.requires.0 (v.ensures ∙ ap (Rows.row a.sheet.now) c.count_of-in-loop-v.ensures) (omega (arith, h, c.count_of.ensures)) x t
-          (ap (λ y. Layout.names_fit a.sheet.now y v.result) (sym c.count_of-in-loop-v-2.ensures) ∙ sym c.names_fit.ensures ∙ not-false _ c.if-not-names_fit.false) e) ∙ l.invariant.4,
+          (ap (λ y. Layout.names_fit a.sheet.now y v.result) (sym c.count_of-in-loop-v-2.ensures) ∙ sym c.names_fit.ensures ∙ c.if-not-names_fit.false) e) ∙ l.invariant.4,
     )
 
 pub returns : goal.returns

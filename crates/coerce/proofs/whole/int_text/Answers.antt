@@ -3,8 +3,8 @@ use borrow.Author.Rules.{rules}
 use Rattle.coerce.proofs.Wholes
 use Rattle.coerce.proofs.whole.int_text.Goals as goal
 
-pub is_word-f-requires : goal.is_word-f-requires
-is_word-f-requires c = Wholes.text_true c.args.s.now _ c.is_word.ensures c.if-is_word.true
+pub returns-then-is_word : goal.returns-then-is_word
+returns-then-is_word c = Wholes.text_true c.args.s.now _ c.is_word.ensures c.if-is_word.true
 
 pub returns-then-f-e : goal.returns-then-f-e
 returns-then-f-e c =

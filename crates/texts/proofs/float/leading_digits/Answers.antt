@@ -17,13 +17,13 @@ is_digit-requires c = tt
 
 pub returns-then-not-is_digit : goal.returns-then-not-is_digit
 returns-then-not-is_digit c =
-    let t = sym c.is_digit.ensures ∙ not-true _ c.if-not-is_digit.true in
+    let t = sym c.is_digit.ensures ∙ c.if-not-is_digit.true in
     let s = c.args.s.now in
     (omega (arith, Decimals.digits_stop s c.loop-i.i (omega arith) t, c.loop-i.invariant.1), omega arith)
 
 pub loop-i-preserved : goal.loop-i-preserved
 loop-i-preserved c =
-    let t = sym c.is_digit.ensures ∙ not-false _ c.if-not-is_digit.false in
+    let t = sym c.is_digit.ensures ∙ c.if-not-is_digit.false in
     let s = c.args.s.now in
     (omega arith, omega (arith, Decimals.digits_next s c.loop-i.i (omega arith) t, c.loop-i.invariant.1))
 

@@ -17,12 +17,12 @@ is_space-requires c = tt
 
 pub returns-then-not-is_space : goal.returns-then-not-is_space
 returns-then-not-is_space c =
-    let t = sym c.is_space.ensures ∙ not-true _ c.if-not-is_space.true in
+    let t = sym c.is_space.ensures ∙ c.if-not-is_space.true in
     (omega arith, sym (end_stop _ c.loop-e.e (omega arith) (omega arith) t) ∙ c.loop-e.invariant.1)
 
 pub loop-e-preserved : goal.loop-e-preserved
 loop-e-preserved c =
-    let t = sym c.is_space.ensures ∙ not-false _ c.if-not-is_space.false in
+    let t = sym c.is_space.ensures ∙ c.if-not-is_space.false in
     (omega arith, sym (end_space _ c.loop-e.e (omega arith) (omega arith) t) ∙ c.loop-e.invariant.1)
 
 pub returns : goal.returns

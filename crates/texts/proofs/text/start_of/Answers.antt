@@ -16,12 +16,12 @@ is_space-requires c = tt
 
 pub returns-then-not-is_space : goal.returns-then-not-is_space
 returns-then-not-is_space c =
-    let t = sym c.is_space.ensures ∙ not-true _ c.if-not-is_space.true in
+    let t = sym c.is_space.ensures ∙ c.if-not-is_space.true in
     (omega arith, sym (start_stop _ c.loop-i.i (omega arith) t) ∙ c.loop-i.invariant.1)
 
 pub loop-i-preserved : goal.loop-i-preserved
 loop-i-preserved c =
-    let t = sym c.is_space.ensures ∙ not-false _ c.if-not-is_space.false in
+    let t = sym c.is_space.ensures ∙ c.if-not-is_space.false in
     (omega arith, sym (start_space _ c.loop-i.i (omega arith) t) ∙ c.loop-i.invariant.1)
 
 pub returns : goal.returns

@@ -25,7 +25,7 @@ unfolding records_are
 returns-then-not-same c =
     let a = c.args in
     let i = c.loop-i.i in
-    let t = ap (same_remark (get_or a.t4 i zero_remark)) (sym c.wanted.ensures) ∙ sym c.same.ensures ∙ not-true _ c.if-not-same.true in
+    let t = ap (same_remark (get_or a.t4 i zero_remark)) (sym c.wanted.ensures) ∙ sym c.same.ensures ∙ c.if-not-same.true in
     records_differ a.s.now a.count a.n a.t4 i 64 c.loop-i-test.true t
 
 pub loop-i-preserved : goal.loop-i-preserved
@@ -33,7 +33,7 @@ unfolding records_are
 loop-i-preserved c =
     let a = c.args in
     let l = c.loop-i in
-    let t = ap (same_remark (get_or a.t4 l.i zero_remark)) (sym c.wanted.ensures) ∙ sym c.same.ensures ∙ not-false _ c.if-not-same.false in
+    let t = ap (same_remark (get_or a.t4 l.i zero_remark)) (sym c.wanted.ensures) ∙ sym c.same.ensures ∙ c.if-not-same.false in
     (omega arith, records_turn a.s.now a.count a.n a.t4 l.i l.invariant.1 t)
 
 pub returns : goal.returns
