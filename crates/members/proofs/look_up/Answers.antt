@@ -8,7 +8,7 @@ returns-in-Nothing c =
     let a = c.args in
     let f = c.find_structure.ensures in
     let e = c.in-Nothing.is in
-record { value = up_missing a.schema.now a.name _ f.result_value e; name_value = looked_missing a.schema.now a.name _ f.name_value e }
+    record { value = up_missing a.schema.now a.name _ f.result_value e; name_value = looked_missing a.schema.now a.name _ f.name_value e }
 
 pub returns-in-At : goal.returns-in-At
 returns-in-At c =
@@ -17,4 +17,4 @@ returns-in-At c =
     let at = c.in-At.place in
     let e = c.in-At.is in
     let h = c.read_head-h.ensures in
-record { value = up_at a.schema.now a.name _ f.result_value at _ e h; name_value = looked_at_law a.schema.now a.name _ f.name_value at _ e h }
+    record { value = up_at a.schema.now a.name _ f.result_value at _ e h; name_value = looked_at_law a.schema.now a.name _ f.name_value at _ e h }

@@ -14,7 +14,7 @@ put_definition-requires c =
     let place = c.in-At.place in
     let q = c.in-At.is in
     let b = body_at a.schema.now a.enums a.name f.result f.ensures place q in
-record { lies = stored_lies a.schema.now a.enums a.name f.result f.ensures c.requires.stored place q; len_value = (d.ensures.0, omega (arith, ap length b, d.ensures.0, c.requires.index_bound.1, c.write_two.auto.s)) }
+    record { lies = stored_lies a.schema.now a.enums a.name f.result f.ensures c.requires.stored place q; len_value = (d.ensures.0, omega (arith, ap length b, d.ensures.0, c.requires.index_bound.1, c.write_two.auto.s)) }
 
 pub returns-in-At : goal.returns-in-At
 returns-in-At c =

@@ -28,7 +28,7 @@ put_record-at-requires c =
     let l = c.loop-k in
     let t = put_turn a.schema.now a.work.now a.enums a.names a.count a.out.now a.index a.to c.requires.every c.requires.count_in_bounds_2.1.0 l.at l.k l.out l.invariant
     c.loop-k-test.true c.read_u32-name.result c.read_u32-name.ensures in
-record { stored = t.0; index_bound = (t.1.0, t.1.1, omega (arith, t.1.2, c.requires.count_in_bounds_2.1.1)) }
+    record { stored = t.0; index_bound = (t.1.0, t.1.1, omega (arith, t.1.2, c.requires.count_in_bounds_2.1.1)) }
 
 pub overflow_add-k : goal.overflow_add-k
 overflow_add-k c = omega (arith, c.loop-k-test.true)

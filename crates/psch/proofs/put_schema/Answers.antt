@@ -9,7 +9,7 @@ put_records-mid-requires c =
     let a = c.args in
     let z = used_size a.schema.now a.round a.p a.work.now in
     let h = c.requires.0 in
-record { count_in_bounds = omega (arith, h.structs, h.room); every = omega arith; count_in_bounds_2 = (c.requires.work_in_bounds.0.structs, (omega (arith, z, c.requires.work_in_bounds.1.0), omega (arith, z, c.requires.work_in_bounds.1.1))) }
+    record { count_in_bounds = omega (arith, h.structs, h.room); every = omega arith; count_in_bounds_2 = (c.requires.work_in_bounds.0.structs, (omega (arith, z, c.requires.work_in_bounds.1.0), omega (arith, z, c.requires.work_in_bounds.1.1))) }
 
 pub put_records-end-requires : goal.put_records-end-requires
 put_records-end-requires c =
@@ -17,7 +17,7 @@ put_records-end-requires c =
     let z = used_size a.schema.now a.round a.p a.work.now in
     let h = c.requires.0 in
     let r = c.put_records-mid in
-record { count_in_bounds = omega (arith, h.enums, h.room); every = omega (arith, r.ensures.0); count_in_bounds_2 = (c.requires.work_in_bounds.0.enums, (omega (arith, z, r.ensures.0, r.auto.out, c.requires.work_in_bounds.1.0), omega (arith, z, r.ensures.0, c.requires.work_in_bounds.1.1))) }
+    record { count_in_bounds = omega (arith, h.enums, h.room); every = omega (arith, r.ensures.0); count_in_bounds_2 = (c.requires.work_in_bounds.0.enums, (omega (arith, z, r.ensures.0, r.auto.out, c.requires.work_in_bounds.1.0), omega (arith, z, r.ensures.0, c.requires.work_in_bounds.1.1))) }
 
 pub overflow_cast-end : goal.overflow_cast-end
 overflow_cast-end c =

@@ -18,13 +18,13 @@ overflow_cast-k c =
 pub cell_run-requires : goal.cell_run-requires
 cell_run-requires c =
     let a = c.args in
-record { safe = c.requires.0; sane = (integer_few a.x.kind c.in-Integer.k c.kind_of.result c.kind_of.ensures c.in-Integer.is, omega arith) }
+    record { safe = c.requires.0; sane = (integer_few a.x.kind c.in-Integer.k c.kind_of.result c.kind_of.ensures c.in-Integer.is, omega arith) }
 
 pub cell_run-requires-in-Vector : goal.cell_run-requires-in-Vector
 cell_run-requires-in-Vector c =
     let a = c.args in
     let v = vector_few a.x.kind c.in-Vector.k c.kind_of.result c.kind_of.ensures c.in-Vector.is in
-record { safe = c.requires.0; sane = (v, vector_room c.in-Vector.k c.vector_stride.result v.1 c.vector_stride.ensures) }
+    record { safe = c.requires.0; sane = (v, vector_room c.in-Vector.k c.vector_stride.result v.1 c.vector_stride.ensures) }
 
 pub returns-in-Integer : goal.returns-in-Integer
 returns-in-Integer c =

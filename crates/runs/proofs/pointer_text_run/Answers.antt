@@ -34,7 +34,7 @@ text_slot-requires c =
     let d = paid_done a.round a.p (run_cost (slot_size a.sub) a.n) c.run_cost.result c.pay.result c.in-Done.s (c.run_cost.ensures ∙ ap (λ (x : ℕ). 16 + x * a.n) c.slot_size-stride.ensures.0) c.pay.ensures c.in-Done.is in
     let r = ready (slot_size a.sub) a.n c.requires d in
     let h = texts_room a.round (length a.work.now) c.in-Done.s a.work.now a.sheet.now a.sub a.first a.n l.q l.work l.i r (l.invariant.2 r) c.loop-i-test.true c.slot_size-stride.result c.slot_size-stride.ensures.0 in
-record { safe = rw l.invariant.1 h; round_bound = (omega (arith, (l.invariant.2 r).safe.low), omega (arith, c.slot_size-stride.ensures.0), text_short a.sheet.now c.read_row-v.result c.str_of.result.now (omega (arith, c.read_row-v.type_inv)) c.str_of.ensures) }
+    record { safe = rw l.invariant.1 h; round_bound = (omega (arith, (l.invariant.2 r).safe.low), omega (arith, c.slot_size-stride.ensures.0), text_short a.sheet.now c.read_row-v.result c.str_of.result.now (omega (arith, c.read_row-v.type_inv)) c.str_of.ensures) }
 
 pub returns-in-Refused-text_slot : goal.returns-in-Refused-text_slot
 returns-in-Refused-text_slot c =

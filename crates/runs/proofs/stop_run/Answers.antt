@@ -11,4 +11,4 @@ use Rattle.runs.proofs.stop_run.Goals as goal
 pub returns : goal.returns
 returns c =
     let a = c.args in
-record { yields = run_said a.round (length a.work.now) a.p a.work.now a.d a.m a.kind a.detail c.say.result c.say.new.work c.requires.0 c.requires.1 c.say.ensures; work_after = ap (λ (x : Progress × Bytes). (Dropped x.0, x.1)) c.say.ensures.exact }
+    record { yields = run_said a.round (length a.work.now) a.p a.work.now a.d a.m a.kind a.detail c.say.result c.say.new.work c.requires.0 c.requires.1 c.say.ensures; work_after = ap (λ (x : Progress × Bytes). (Dropped x.0, x.1)) c.say.ensures.exact }

@@ -12,4 +12,4 @@ use Rattle.area.proofs.used.use_struct.Goals as goal
 pub returns : goal.returns
 returns c =
     let a = c.args in
-record { marks = use_struct_law a.round (length a.work.now) a.p a.work.now c.requires a.name c.insert-n.result c.insert-n.new.work (omega arith) c.insert-n.ensures; work_after = ap (λ (i : ℕ × Bytes). (with_used a.p i.0 a.p.enums, i.1)) c.insert-n.ensures.exact }
+    record { marks = use_struct_law a.round (length a.work.now) a.p a.work.now c.requires a.name c.insert-n.result c.insert-n.new.work (omega arith) c.insert-n.ensures; work_after = ap (λ (i : ℕ × Bytes). (with_used a.p i.0 a.p.enums, i.1)) c.insert-n.ensures.exact }

@@ -14,7 +14,7 @@ fill_table-size-requires c =
     let a = c.args in
     let k = c.requires.core in
     let w = c.requires.held in
-record { some_rows = record { blocks = k.blocks; held = w.blocks }; count_bound = (w.behind_rows, table_inside a.work.now a.rows a.count a.table a.from a.end (length a.out.now) k w) }
+    record { some_rows = record { blocks = k.blocks; held = w.blocks }; count_bound = (w.behind_rows, table_inside a.work.now a.rows a.count a.table a.from a.end (length a.out.now) k w) }
 
 pub write_data-requires : goal.write_data-requires
 write_data-requires c =
@@ -34,7 +34,7 @@ write_map-requires c =
     let e = f.ensures k.blocks w.blocks in
     let d = c.write_data in
     let q : f.result + (16 + 16 * a.count) ≤ length d.new.out = omega (arith, e.1, size_is a.work.now a.rows a.count a.table a.from a.end (length a.out.now) k w, w.fits, d.auto.out) in
-record { some_rows = record { blocks = k.blocks; held = table_rows a.work.now a.rows a.count a.table a.from a.end (length a.out.now) k w f.new.work e.0 }; count_in_bounds = (q, w.few) }
+    record { some_rows = record { blocks = k.blocks; held = table_rows a.work.now a.rows a.count a.table a.from a.end (length a.out.now) k w f.new.work e.0 }; count_in_bounds = (q, w.few) }
 
 pub returns : goal.returns
 returns c =

@@ -9,7 +9,7 @@ returns-in-At c =
     let d = c.in-At.d in
     let e = c.in-At.is in
     let l = c.look_up in
-record { value = own_first a.schema.now a.v a.reference d l.result e l.ensures.value; owned = own_here a.schema.now a.v a.reference d l.result e l.ensures.name_value }
+    record { value = own_first a.schema.now a.v a.reference d l.result e l.ensures.value; owned = own_here a.schema.now a.v a.reference d l.result e l.ensures.name_value }
 
 pub returns-in-Missing : goal.returns-in-Missing
 returns-in-Missing c =

@@ -41,7 +41,6 @@ pub loop-place-preserved : goal.loop-place-preserved
 loop-place-preserved c =
     let a = c.args in
     let l = c.loop-place in
-
     let o = onward a.file.now l.c.at c.step-s.result c.step-s.ensures c.in-Section.place c.in-Section.len c.in-Section.next c.in-Section.is in (
       omega (arith, o.inside, o.on),
       turn a.file.now a.kind a.name l.c.at l.hit l.at l.invariant.1 c.in-Section.place c.in-Section.len c.in-Section.next.at (found_is c.last_of-f.result) o c.last_of-f.ensures _ _

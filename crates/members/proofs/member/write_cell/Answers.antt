@@ -24,20 +24,17 @@ put_cell-requires c =
 pub returns-in-Stored : goal.returns-in-Stored
 returns-in-Stored c =
     let a = c.args in
-
     cell_stored a.round (length a.work.now) a.p a.work.now a.sheet.now a.schema.now a.d a.m (value_is a.v) a.need (cell_bytes a.sheet.now a.schema.now a.cell) a.known a.name c.value_row-row.result c.value_row-row.ensures (sym c.fits.ensures ∙ c.if-not-fits.false) c.put_cell.new.buf
     c.used.result c.used.new.work c.requires.safe.0 c.requires.buffer.0 refl (rw (← c.in-Stored.is) c.put_cell.ensures) c.work-2-1.given.0 c.used.ensures
 
 pub returns-in-Unfit : goal.returns-in-Unfit
 returns-in-Unfit c =
     let a = c.args in
-
     cell_wrong a.round (length a.work.now) a.p a.work.now a.sheet.now a.schema.now a.d a.m (value_is a.v) a.need (cell_bytes a.sheet.now a.schema.now a.cell) a.known a.name c.value_row-row.result c.value_row-row.ensures (sym c.fits.ensures ∙ c.if-not-fits.false) c.put_cell.new.buf
     c.wrong.result c.wrong.new.work refl (rw (← c.in-Unfit.is) c.put_cell.ensures) (c.wrong.ensures.fills a.schema.now)
 
 pub returns-in-FloatText : goal.returns-in-FloatText
 returns-in-FloatText c =
     let a = c.args in
-
     cell_refused a.round (length a.work.now) a.p a.work.now a.sheet.now a.schema.now a.d a.m (value_is a.v) a.need (cell_bytes a.sheet.now a.schema.now a.cell) a.known a.name c.value_row-row.result c.value_row-row.ensures (sym c.fits.ensures ∙ c.if-not-fits.false) c.put_cell.new.buf
     c.requires.safe.0 (rw (← c.in-FloatText.is) c.put_cell.ensures)

@@ -17,7 +17,6 @@ write_cell-requires c =
 pub returns-in-Store : goal.returns-in-Store
 returns-in-Store c =
     let a = c.args in
-
     as_planned a.schema.now a.d a.m a.round (length a.work.now) a.p a.work.now a.sheet.now (value_is a.v) (Kinds.kind_of a.m.kind) c.plan_of.result (P.Store c.in-Store.cell c.in-Store.need c.in-Store.known c.in-Store.name)
     c.plan_of.ensures c.in-Store.is c.write_cell.result c.write_cell.new.work c.write_cell.ensures
 
@@ -36,7 +35,6 @@ returns-in-Nothing c =
 pub returns-in-Remark : goal.returns-in-Remark
 returns-in-Remark c =
     let a = c.args in
-
     as_planned a.schema.now a.d a.m a.round (length a.work.now) a.p a.work.now a.sheet.now (value_is a.v) (Kinds.kind_of a.m.kind) c.plan_of.result (P.Remark c.in-Remark.kind c.in-Remark.detail)
     c.plan_of.ensures c.in-Remark.is _ c.say.new.work
     (said a.round (length a.work.now) a.p a.work.now (λ S. Knows S (P.Remark c.in-Remark.kind c.in-Remark.detail)) a.d.size a.schema.now a.d a.m c.in-Remark.kind c.in-Remark.detail c.say.result c.say.new.work c.requires.safe.0 c.requires.safe.1 c.say.ensures)

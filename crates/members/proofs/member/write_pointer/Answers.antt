@@ -26,7 +26,7 @@ pub text_slot-requires : goal.text_slot-requires
 text_slot-requires c =
     let a = c.args in
     let y = leb-true (a.m.offset + c.slot_size.result) a.d.size (sym c.fits.ensures ∙ c.if-not-fits.false) in
-record { safe = c.requires.safe.0; round_bound = (omega (arith, c.requires.buffer), omega (arith, c.requires.buffer, y, c.slot_size.ensures.0), text_short a.sheet.now c.value_row-row.result c.str_of.result.now (omega (arith, c.value_row-row.type_inv)) c.str_of.ensures) }
+    record { safe = c.requires.safe.0; round_bound = (omega (arith, c.requires.buffer), omega (arith, c.requires.buffer, y, c.slot_size.ensures.0), text_short a.sheet.now c.value_row-row.result c.str_of.result.now (omega (arith, c.value_row-row.type_inv)) c.str_of.ensures) }
 
 pub returns : goal.returns
 returns c =

@@ -13,7 +13,7 @@ use Rattle.members.proofs.member.wrong.Goals as goal
 pub returns-in-Missing : goal.returns-in-Missing
 returns-in-Missing c =
     let a = c.args in
-record { fills = λ F. rw c.in-Missing.is (wrong_missing a.round (length a.work.now) a.p a.work.now any_schema a.d.size (def_of F a.d) (member_of a.m) c.requires.0); work_after = rw c.in-Missing.is }
+    record { fills = λ F. rw c.in-Missing.is (wrong_missing a.round (length a.work.now) a.p a.work.now any_schema a.d.size (def_of F a.d) (member_of a.m) c.requires.0); work_after = rw c.in-Missing.is }
 
 pub returns-in-At : goal.returns-in-At
 returns-in-At c =

@@ -7,10 +7,11 @@ use borrow.Author.Rules.{rules}
 use Rattle.pso.proofs.blocks.block.Goals as goal
 
 pub returns-then-number-eq0 : goal.returns-then-number-eq0
-returns-then-number-eq0 c = from_none c.args.file.now c.args.number c.if-number-eq0.true
+returns-then-number-eq0 c =
+    record { result_value = (from_none c.args.file.now c.args.number c.if-number-eq0.true).0; number_value = (from_none c.args.file.now c.args.number c.if-number-eq0.true).1 }
 
 pub returns : goal.returns
 returns c =
     let F = c.args.file.now in
     let e = c.nth_row.ensures ∙ from_one_law (blocks_of (sections F)) c.args.number c.if-number-eq0.false in
-record { result_value = e; number_value = numbered_is F c.args.number c.nth_row.result e }
+    record { result_value = e; number_value = numbered_is F c.args.number c.nth_row.result e }

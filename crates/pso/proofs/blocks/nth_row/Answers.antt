@@ -42,7 +42,6 @@ pub returns-then-k-count : goal.returns-then-k-count
 returns-then-k-count c =
     let a = c.args in
     let l = c.loop-place in
-
     let o = onward a.file.now l.c.at c.step-q.result c.step-q.ensures c.in-Section.place c.in-Section.len c.in-Section.next c.in-Section.is in
     block_found a.file.now a.n l.c.at l.k l.invariant.1 _ c.in-Section.next.at _ c.span_of-w.result o.left c.span_of-w.ensures c.if-k-count.true c.row_at.result c.row_at.ensures
 
@@ -55,6 +54,5 @@ pub loop-place-preserved : goal.loop-place-preserved
 loop-place-preserved c =
     let a = c.args in
     let l = c.loop-place in
-
     let o = onward a.file.now l.c.at c.step-q.result c.step-q.ensures c.in-Section.place c.in-Section.len c.in-Section.next c.in-Section.is in
     (omega (arith, o.inside, o.on), block_turn a.file.now a.n l.c.at l.k l.invariant.1 _ c.in-Section.next.at _ c.span_of-w.result o.left c.span_of-w.ensures c.if-k-count.false)

@@ -33,14 +33,12 @@ pub returns-in-At : goal.returns-in-At
 returns-in-At c =
     let a = c.args in
     let l = c.loop-place in
-
     let o = onward a.file.now l.c.at c.step-s.result c.step-s.ensures c.in-Section.place c.in-Section.len c.in-Section.next c.in-Section.is in
     found a.file.now a.kind a.name l.c.at l.invariant.1 c.in-Section.place c.in-Section.len c.in-Section.next.at c.first_of-f.result o c.first_of-f.ensures c.in-At.at c.in-At.is
 
 pub loop-place-smaller : goal.loop-place-smaller
 loop-place-smaller c =
     let l = c.loop-place in
-
     let o = onward c.args.file.now l.c.at c.step-s.result c.step-s.ensures c.in-Section.place c.in-Section.len c.in-Section.next c.in-Section.is in
     omega (arith, o.inside, o.least, o.on, o.here)
 
@@ -48,6 +46,5 @@ pub loop-place-preserved : goal.loop-place-preserved
 loop-place-preserved c =
     let a = c.args in
     let l = c.loop-place in
-
     let o = onward a.file.now l.c.at c.step-s.result c.step-s.ensures c.in-Section.place c.in-Section.len c.in-Section.next c.in-Section.is in
     (omega (arith, o.inside, o.on), goes_on a.file.now a.kind a.name l.c.at l.invariant.1 c.in-Section.place c.in-Section.len c.in-Section.next.at c.first_of-f.result o c.first_of-f.ensures c.in-Nothing.is)

@@ -5,10 +5,14 @@ use Rattle.pso.proofs.Leading.{struct_answer}
 use borrow.Author.Rules.{rules}
 use Rattle.pso.proofs.lookup.structure.Goals as goal
 
+-- the two facts of one answer
+both : {P Q : Type 0} → P × Q → record {value : P; name_value : Q}
+both w = record { value = w.0; name_value = w.1 }
+
 pub returns-in-Nothing : goal.returns-in-Nothing
 returns-in-Nothing c =
-    struct_answer c.args.file.now c.args.name c.first-f.result c.first-f.ensures Nothing c.in-Nothing.is _ refl
+    both (struct_answer c.args.file.now c.args.name c.first-f.result c.first-f.ensures Nothing c.in-Nothing.is _ refl)
 
 pub returns-in-At : goal.returns-in-At
 returns-in-At c =
-    struct_answer c.args.file.now c.args.name c.first-f.result c.first-f.ensures (At c.in-At.at) c.in-At.is _ (rw c.read_head-h.ensures)
+    both (struct_answer c.args.file.now c.args.name c.first-f.result c.first-f.ensures (At c.in-At.at) c.in-At.is _ (rw c.read_head-h.ensures))

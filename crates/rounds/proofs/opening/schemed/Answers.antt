@@ -14,5 +14,4 @@ pub returns-in-Sound : goal.returns-in-Sound
 returns-in-Sound c =
     let a = c.args in
     let q = c.check_schema in
-
     c.rooted.ensures ∙ schema_good a.sheet.now a.schema.now a.work c.in-Sound.entries q.result q.ensures c.in-Sound.is

@@ -20,7 +20,7 @@ write_struct-requires c = rw c.begun.ensures (begin_safe c.args.round (length c.
 pub lay-requires : goal.lay-requires
 lay-requires c =
     let x = rw (c.in-Done.is, c.begun.ensures) at c.write_struct.ensures in
-record { safe = rw c.work-1.given x.grew.0; len_bound = (omega (arith, x.grew.1.grown.paid), omega (arith, x.grew.1.grown.top)) }
+    record { safe = rw c.work-1.given x.grew.0; len_bound = (omega (arith, x.grew.1.grown.paid), omega (arith, x.grew.1.grown.top)) }
 
 -- src/run.rt:44:1
 pub returns-in-Refused : goal.returns-in-Refused

@@ -33,7 +33,6 @@ pub returns-in-Refused : goal.returns-in-Refused
 returns-in-Refused c =
     let F = c.args.file.now in
     let l = c.loop-place in
-
     let o = onward F l.c.at c.step-s.result c.step-s.ensures c.in-Section.place c.in-Section.len c.in-Section.next c.in-Section.is in
     refuses F l.c.at l.count l.invariant.2 _ c.in-Section.next.at _ c.check_section-q.result o.left c.check_section-q.ensures c.in-Refused.n c.in-Refused.is
 
@@ -41,7 +40,6 @@ pub overflow_add-count : goal.overflow_add-count
 overflow_add-count c =
     let F = c.args.file.now in
     let l = c.loop-place in
-
     let o = onward F l.c.at c.step-s.result c.step-s.ensures c.in-Section.place c.in-Section.len c.in-Section.next c.in-Section.is in
     let f = fewer F l.c.at l.count l.invariant.2 _ c.in-Section.next.at _ c.check_section-q.result o.left c.check_section-q.ensures c.in-Sound.k c.in-Sound.is in
     omega (arith, o.inside, o.whole, f, l.invariant.0, l.invariant.1)
@@ -50,7 +48,6 @@ pub loop-place-smaller : goal.loop-place-smaller
 loop-place-smaller c =
     let F = c.args.file.now in
     let l = c.loop-place in
-
     let o = onward F l.c.at c.step-s.result c.step-s.ensures c.in-Section.place c.in-Section.len c.in-Section.next c.in-Section.is in
     omega (arith, o.inside, o.least, o.on, o.here)
 
@@ -58,7 +55,6 @@ pub loop-place-preserved : goal.loop-place-preserved
 loop-place-preserved c =
     let F = c.args.file.now in
     let l = c.loop-place in
-
     let o = onward F l.c.at c.step-s.result c.step-s.ensures c.in-Section.place c.in-Section.len c.in-Section.next c.in-Section.is in
     let f = fewer F l.c.at l.count l.invariant.2 _ c.in-Section.next.at _ c.check_section-q.result o.left c.check_section-q.ensures c.in-Sound.k c.in-Sound.is in (
       omega (arith, o.inside, o.on),
