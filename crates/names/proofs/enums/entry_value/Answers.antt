@@ -1,12 +1,9 @@
 -- `names::enums::entry_value` meets its contract. Assumes nothing.
-use mathlib.Core.Path.{◌≡◌, refl, sym, ap, ◌∙◌}
-use Prim.Native.Nat.{◌-◌, ◌+◌, ◌*◌, ◌≤◌}
+use mathlib.Core.Path.{refl, sym, ap, ◌∙◌}
+use Prim.Native.Nat.{◌-◌}
 use native.Mathlib.Omega.{arith}
-use borrow.Author.Rules.{rules}
-use Rattle.schema.specs.Defs.{first_entry}
 use Rattle.conversions.specs.Answer.{word_is}
 use Rattle.conversions.specs.declared.parse.Word.TheVariants as D
-use Rattle.schema.specs.Psch.{entries_at}
 use Rattle.names.proofs.Hashing
 use Rattle.names.proofs.enums.entry_value.Goals as goal
 

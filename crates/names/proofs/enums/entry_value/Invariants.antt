@@ -1,13 +1,8 @@
 -- `names::enums::entry_value` meets its contract. Assumes nothing.
-use mathlib.Core.Path.{◌≡◌, refl, sym, ap, ◌∙◌}
-use Prim.Native.Nat.{◌-◌, ◌+◌, ◌*◌, ◌≤◌}
-use native.Mathlib.Omega.{arith}
-use borrow.Author.Rules.{rules}
+use mathlib.Core.Path.{◌≡◌}
+use Prim.Native.Nat.{◌+◌, ◌*◌, ◌≤◌}
 use Rattle.schema.specs.Defs.{first_entry}
-use Rattle.conversions.specs.Answer.{word_is}
-use Rattle.conversions.specs.declared.parse.Word.TheVariants as D
 use Rattle.schema.specs.Psch.{entries_at}
-use Rattle.names.proofs.Hashing
 use Rattle.names.proofs.enums.entry_value.Given as goal
 
 abbrev pub invariant-loop-left : goal.invariant-loop-left

@@ -1,5 +1,4 @@
 -- `names::enums::enum_text` meets its contract. Assumes nothing.
-use borrow.Author.Rules.{rules}
 use Rattle.schema.specs.Defs.{first_entry}
 use Rattle.schema.specs.Psch.{entries_at}
 use Rattle.coerce.specs.Numbers.{fit_or, unfit}

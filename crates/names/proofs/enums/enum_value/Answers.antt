@@ -1,5 +1,4 @@
 -- `names::enums::enum_value` meets its contract. Assumes nothing.
-use borrow.Author.Rules.{rules}
 use Rattle.schema.specs.Psch.{entries_at}
 use Rattle.names.proofs.Hashing
 use Rattle.names.proofs.enums.enum_value.Goals as goal

@@ -1,5 +1,4 @@
 -- `names::enums::found_bits` meets its contract. Assumes nothing.
-use borrow.Author.Rules.{rules}
 use Rattle.names.proofs.Hashing
 use Rattle.names.proofs.enums.found_bits.Goals as goal
 

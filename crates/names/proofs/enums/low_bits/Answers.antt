@@ -1,5 +1,4 @@
 -- `names::enums::low_bits` meets its contract. Assumes nothing.
-use borrow.Author.Rules.{rules}
 use Rattle.names.proofs.Hashing
 use Rattle.names.proofs.enums.low_bits.Goals as goal
 

@@ -1,5 +1,4 @@
 -- `names::enums::number_text` meets its contract. Assumes nothing.
-use borrow.Author.Rules.{rules}
 use Rattle.names.proofs.Hashing
 use Rattle.names.proofs.enums.number_text.Goals as goal
 

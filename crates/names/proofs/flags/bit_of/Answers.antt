@@ -4,7 +4,6 @@ use Prim.Native.Nat.{◌%◌, ◌+◌, ◌≤◌}
 use native.Mathlib.Nat.{one-mul}
 use native.Mathlib.Omega.{arith}
 use lib.Pow.{shl_exact}
-use borrow.Author.Rules.{rules}
 use Rattle.names.proofs.flags.bit_of.Goals as goal
 
 pub returns : goal.returns

@@ -1,16 +1,12 @@
 -- `names::flags::flag_names` meets its contract. Assumes nothing.
-use mathlib.Core.Path.{◌≡◌, sym, ap, ◌∙◌}
+use mathlib.Core.Path.{◌≡◌}
 use Prim.Native.Nat.{◌-◌, ◌+◌, ◌≤◌}
-use native.Mathlib.Omega.{arith}
-use borrow.Author.Rules.{rules}
 use lib.Bits.{bit_or}
 use lib.ListN.{length, drop}
 use Rattle.schema.specs.Psch.{entries_at}
 use Rattle.texts.specs.Text.{parts}
 use Rattle.coerce.specs.Numbers.{map_fit}
 use Rattle.names.specs.Names
-use Rattle.coerce.specs.Answer.{bits_is}
-use Rattle.names.proofs.Splits
 use Rattle.names.proofs.flags.flag_names.Given as goal
 
 abbrev pub invariant-loop-i : goal.invariant-loop-i

@@ -1,5 +1,4 @@
 -- `names::flags::flag_part` meets its contract. Assumes nothing.
-use borrow.Author.Rules.{rules}
 use Rattle.schema.specs.Psch.{entries_at}
 use Rattle.names.proofs.Splits
 use Rattle.names.proofs.flags.flag_part.Goals as goal

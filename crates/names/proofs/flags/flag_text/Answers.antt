@@ -1,5 +1,4 @@
 -- `names::flags::flag_text` meets its contract. Assumes nothing.
-use borrow.Author.Rules.{rules}
 use Rattle.schema.specs.Psch.{entries_at}
 use Rattle.texts.specs.Text.{parts}
 use Rattle.names.specs.Names

@@ -1,5 +1,4 @@
 -- `names::hashes::behind` meets its contract. Assumes nothing.
-use borrow.Author.Rules.{rules}
 use Rattle.names.proofs.Hashing
 use Rattle.names.proofs.hashes.behind.Goals as goal
 

@@ -1,5 +1,4 @@
 -- `names::hashes::hash_of_str` meets its contract. Assumes nothing.
-use borrow.Author.Rules.{rules}
 use Rattle.names.proofs.Hashing
 use Rattle.names.proofs.hashes.hash_of_str.Goals as goal
 

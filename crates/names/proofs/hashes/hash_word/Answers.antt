@@ -1,5 +1,4 @@
 -- `names::hashes::hash_word` meets its contract. Assumes nothing.
-use borrow.Author.Rules.{rules}
 use Rattle.names.proofs.Hashing
 use Rattle.names.proofs.hashes.hash_word.Goals as goal
 

@@ -1,5 +1,4 @@
 -- `names::hashes::hex_or_joaat` meets its contract. Assumes nothing.
-use borrow.Author.Rules.{rules}
 use Rattle.names.proofs.Hashing
 use Rattle.names.proofs.hashes.hex_or_joaat.Goals as goal
 
