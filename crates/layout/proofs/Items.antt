@@ -49,7 +49,7 @@ items_in_mid k a i b e = items_in_append k a (i ∷ b) ∙ ap (λ l. items_in k 
 
 pub tile_snoc : (p e : ℕ) (is : List Item) (i : Item) → ItemsTile p is e → i.start ≡ e → ItemsTile p (is ++ (i ∷ [])) (e + length i.bytes)
 tile_snoc p e [] i t h = (h ∙ sym t, ap (λ k. k + length i.bytes) t)
-tile_snoc p e (j ∷ is) i t h = (t.0, tile_snoc _ e is i t.1 h)
+tile_snoc p e (j ∷ is) i t h = (t.0, tile_snoc (p + length j.bytes) e is i t.1 h)
 
 pub tile_len : (p e : ℕ) (is : List Item) → ItemsTile p is e → p + length (bytes_in is) ≡ e
 unfolding joined

@@ -342,11 +342,11 @@ unfolding schema_from
 enums_listed [] = refl
 enums_listed (d ∷ ds) = ap (add_def (enumeration d)) (enums_listed ds)
 
-structs_listed : (ds : List StructDef) (l : List Def) (es : List EnumDef) → schema_from l ≡ record { structs = []; enums = es }
-    → schema_from (map structure ds ++ l) ≡ record { structs = ds; enums = es }
+structs_listed : (ds : List StructDef) (l : List Def) (fs : List EnumDef) → schema_from l ≡ record { structs = []; enums = fs }
+    → schema_from (map structure ds ++ l) ≡ record { structs = ds; enums = fs }
 unfolding schema_from
-structs_listed [] l es e = e
-structs_listed (d ∷ ds) l es e = ap (add_def (structure d)) (structs_listed ds l es e)
+structs_listed [] l fs e = e
+structs_listed (d ∷ ds) l fs e = ap (add_def (structure d)) (structs_listed ds l fs e)
 
 -- structures and enums apart again
 pub apart : (S : Schema) → schema_from (listed S) ≡ S
