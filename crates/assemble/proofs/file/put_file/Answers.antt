@@ -50,26 +50,7 @@ put_schema-requires c =
     let e = m.ensures g.state.core W in
     let lo : length o1 ≡ length a.out.now = m.auto.out in
     let r = rest_fits a.schema.now a.round a.p a.work.now g.schema g.state g.stack h f.holds a.pointer (length a.out.now) f.fits f.small a.out.now o1 w1 m.result e.0 e.1 e.2 in
-    let lt : length (take (length o1 - m.result) (drop m.result o1)) ≡ length o1 - m.result = length-take-le (length o1 - m.result) (drop m.result o1) (omega (arith, length-drop m.result o1)) in
-    record { safe = ((
-      subst (λ n. Safe a.round n a.p) (sym m.auto.work) h,
-      (
-        stored a.schema.now a.round a.p a.work.now g.schema g.state g.stack h f.holds a.pointer (length a.out.now) f.fits f.small a.out.now o1 w1 m.result e.0 e.1 e.2,
-        (omega (arith, r, lt, lo), rest_small a.schema.now a.round a.p a.work.now g.schema g.state g.stack h f.holds a.pointer (length a.out.now) f.fits f.small a.out.now o1 w1 m.result e.0 e.1 e.2),
-      ),
-    )).0.0; all_stored = ((
-      subst (λ n. Safe a.round n a.p) (sym m.auto.work) h,
-      (
-        stored a.schema.now a.round a.p a.work.now g.schema g.state g.stack h f.holds a.pointer (length a.out.now) f.fits f.small a.out.now o1 w1 m.result e.0 e.1 e.2,
-        (omega (arith, r, lt, lo), rest_small a.schema.now a.round a.p a.work.now g.schema g.state g.stack h f.holds a.pointer (length a.out.now) f.fits f.small a.out.now o1 w1 m.result e.0 e.1 e.2),
-      ),
-    )).0.1; work_in_bounds = ((
-      subst (λ n. Safe a.round n a.p) (sym m.auto.work) h,
-      (
-        stored a.schema.now a.round a.p a.work.now g.schema g.state g.stack h f.holds a.pointer (length a.out.now) f.fits f.small a.out.now o1 w1 m.result e.0 e.1 e.2,
-        (omega (arith, r, lt, lo), rest_small a.schema.now a.round a.p a.work.now g.schema g.state g.stack h f.holds a.pointer (length a.out.now) f.fits f.small a.out.now o1 w1 m.result e.0 e.1 e.2),
-      ),
-    )).1 }
+    let lt : length (take (length o1 - m.result) (drop m.result o1)) ≡ length o1 - m.result = length-take-le (length o1 - m.result) (drop m.result o1) (omega (arith, length-drop m.result o1)) in record { safe = subst (λ n. Safe a.round n a.p) (sym m.auto.work) h; all_stored = stored a.schema.now a.round a.p a.work.now g.schema g.state g.stack h f.holds a.pointer (length a.out.now) f.fits f.small a.out.now o1 w1 m.result e.0 e.1 e.2; work_in_bounds = (omega (arith, r, lt, lo), rest_small a.schema.now a.round a.p a.work.now g.schema g.state g.stack h f.holds a.pointer (length a.out.now) f.fits f.small a.out.now o1 w1 m.result e.0 e.1 e.2) }
 
 pub returns : goal.returns
 returns c =

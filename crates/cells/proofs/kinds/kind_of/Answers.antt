@@ -50,17 +50,17 @@ returns-in-32 c = rw c.in-32.is refl
 
 pub returns-in-0-to-2 : goal.returns-in-0-to-2
 unfolding kind_of
-returns-in-0-to-2 c = one_byte c.args.ty c.if-ty-lt3.true
+returns-in-0-to-2 c = one_byte c.args.ty c.in-0-to-2.if-ty-lt3-own.true
 
 pub returns-in-5 : goal.returns-in-5
 unfolding kind_of
-returns-in-5 c = four_bytes c.args.ty c.if-ty-lt5.false c.if-ty-lt7.true
+returns-in-5 c = four_bytes c.args.ty c.in-5.if-ty-lt5-own.false c.in-5.if-ty-lt7-own.true
 
 pub returns-in_default : goal.returns-in_default
 unfolding kind_of
 returns-in_default c =
-    let m = c.in_default-1.rest in
-    no_other_law c.args.ty c.if-ty-lt7.false m.0.0.0.0.0.0.0.0.0.0.0.1 m.0.0.0.0.0.0.0.0.0.0.1 m.0.0.0.0.0.0.0.0.0.1
+    let m = c.in_default.in_default-own.rest in
+    no_other_law c.args.ty c.in_default.if-ty-lt7-own.false m.0.0.0.0.0.0.0.0.0.0.0.1 m.0.0.0.0.0.0.0.0.0.0.1 m.0.0.0.0.0.0.0.0.0.1
     m.0.0.0.0.0.0.0.0.1 m.0.0.0.0.0.0.0.1 m.0.0.0.0.0.0.1 m.0.0.0.0.0.1 m.0.0.0.0.1 m.0.0.0.1 m.0.0.1 m.0.1 m.1
 
 pub returns-in-3 : goal.returns-in-3
@@ -69,4 +69,4 @@ returns-in-3 c = rw c.in-3.is refl
 
 pub returns-in-3-2 : goal.returns-in-3-2
 unfolding kind_of
-returns-in-3-2 c = two_bytes c.args.ty c.if-ty-lt3.false c.if-ty-lt5.true
+returns-in-3-2 c = two_bytes c.args.ty c.in-3.if-ty-lt3-own.false c.in-3.if-ty-lt5-own.true

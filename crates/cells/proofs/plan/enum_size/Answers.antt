@@ -12,4 +12,4 @@ returns-in-1 c = (rw c.in-1.is refl, omega arith)
 
 pub returns-in_default : goal.returns-in_default
 returns-in_default c =
-    (rw (ne_eqb c.args.sub 0 c.in_default.rest.0.1, ne_eqb c.args.sub 1 c.in_default.rest.1) refl, omega arith)
+    (rw (ne_eqb c.args.sub 0 c.in_default.in_default-own.rest.0.1, ne_eqb c.args.sub 1 c.in_default.in_default-own.rest.1) refl, omega arith)

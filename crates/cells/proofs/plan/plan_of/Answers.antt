@@ -1,5 +1,5 @@
 -- `cells::plan::plan_of` meets its contract. Assumes nothing.
-use mathlib.Core.Path.{refl, sym, ap}
+use mathlib.Core.Path.{◌≡◌, refl, sym, ap}
 use mathlib.Core.Logic.{inl, inr, ⊎_elim}
 use native.Mathlib.Omega.{arith}
 use borrow.Author.Rules.{rules}
@@ -8,6 +8,7 @@ use Rattle.layout.specs.Kinds.{kind_of}
 use Rattle.cells.proofs.Kinding.{one_byte, two_bytes, four_bytes, threes, fours, left_out, no_other_law}
 use Rattle.cells.proofs.Planning.{plan_scalar, plan_text, text_fixed, text_pointed, text_hashed, text_strange, plan_enum, plan_flags, plan_left, plan_other}
 use Rattle.cells.proofs.plan.plan_of.Goals as goal
+use Rattle.cells.proofs.plan.plan_of.Goals.{in_default-sub-via-then-sub-lt7, in_default-sub-via-else-sub-lt7+else-sub-lt9, in-30-1, in_default+else-ty-lt3+then-ty-lt5}
 
 pub overflow_cast-result : goal.overflow_cast-result
 unfolding kind_of
@@ -47,20 +48,21 @@ pub returns-in-1-to-3 : goal.returns-in-1-to-3
 unfolding kind_of
 returns-in-1-to-3 c =
     let a = c.args in
-    plan_text a.schema.now a.d a.m _ (ap kind_of (sym c.in-11.is)) _ refl (text_pointed a.schema.now a.d a.m c.in_default-1.rest.1 c.if-sub-lt4.true)
+    plan_text a.schema.now a.d a.m _ (ap kind_of (sym c.in-11.is)) _ refl (text_pointed a.schema.now a.d a.m c.in-1-to-3.in_default-own.rest.1 c.in-1-to-3.if-sub-lt4-own.true)
 
 pub returns-in-7-sub : goal.returns-in-7-sub
 unfolding kind_of
 returns-in-7-sub c =
     let a = c.args in
-    plan_text a.schema.now a.d a.m _ (ap kind_of (sym c.in-11.is)) _ refl (text_hashed a.schema.now a.d a.m c.if-sub-lt7.false c.if-sub-lt9.true)
+    plan_text a.schema.now a.d a.m _ (ap kind_of (sym c.in-11.is)) _ refl (text_hashed a.schema.now a.d a.m c.in-7-sub.if-sub-lt7-own.false c.in-7-sub.if-sub-lt9-own.true)
 
 pub returns-in_default-sub : goal.returns-in_default-sub
 unfolding kind_of
 returns-in_default-sub c =
     let a = c.args in
     plan_text a.schema.now a.d a.m _ (ap kind_of (sym c.in-11.is)) _ refl
-    (text_strange a.schema.now a.d a.m c.if-sub-lt4.false (⊎_elim (λ t. inl t.taken) (λ t. inr t.1.left) c.in_default-sub.branch))
+    (text_strange a.schema.now a.d a.m (omega arith)
+    (elim c.in_default-sub.branch [ in_default-sub-via-then-sub-lt7 w ↦ inl (omega arith) | in_default-sub-via-else-sub-lt7+else-sub-lt9 w ↦ inr (omega arith) ]))
 
 pub returns-in-14 : goal.returns-in-14
 unfolding kind_of
@@ -80,21 +82,21 @@ returns-in-32 c =
 pub returns-in-0-to-2 : goal.returns-in-0-to-2
 unfolding kind_of
 returns-in-0-to-2 c =
-    let a = c.args in plan_scalar a.schema.now a.d a.m _ (one_byte a.m.kind c.if-ty-lt3.true) (Kinds.integer 1) _ refl (omega arith) refl (omega arith) c.whole-in-0-to-2.ensures
+    let a = c.args in plan_scalar a.schema.now a.d a.m _ (one_byte a.m.kind c.in-0-to-2.if-ty-lt3-own.true) (Kinds.integer 1) _ refl (omega arith) refl (omega arith) c.whole-in-0-to-2.ensures
 
 pub returns-in-5 : goal.returns-in-5
 unfolding kind_of
 returns-in-5 c =
-    let a = c.args in plan_scalar a.schema.now a.d a.m _ (four_bytes a.m.kind c.if-ty-lt5.false c.if-ty-lt7.true) (Kinds.integer 4) _ refl (omega arith) refl (omega arith) c.whole-in-5.ensures
+    let a = c.args in plan_scalar a.schema.now a.d a.m _ (four_bytes a.m.kind c.in-5.if-ty-lt5-own.false c.in-5.if-ty-lt7-own.true) (Kinds.integer 4) _ refl (omega arith) refl (omega arith) c.whole-in-5.ensures
 
 pub returns-in_default : goal.returns-in_default
 unfolding kind_of
 returns-in_default c =
     let a = c.args in
-    let r = c.in_default-1.rest in
-    let l = c.if-ty-lt14.false in
+    let r = c.in_default.in_default-own.rest in
+    let l = c.in_default.if-ty-lt14-own.false in
     plan_other a.schema.now a.d a.m _
-    (no_other_law a.m.kind c.if-ty-lt7.false r.0.0.0.0.0.0.0.0.0.1 r.0.0.0.0.0.0.0.0.1 r.0.0.0.0.0.0.0.1 r.0.0.0.0.0.0.1 r.0.0.0.0.0.1 r.0.0.0.0.1
+    (no_other_law a.m.kind c.in_default.if-ty-lt7-own.false r.0.0.0.0.0.0.0.0.0.1 r.0.0.0.0.0.0.0.0.1 r.0.0.0.0.0.0.0.1 r.0.0.0.0.0.0.1 r.0.0.0.0.0.1 r.0.0.0.0.1
     (λ q. omega (arith, l, q)) (λ q. omega (arith, l, q)) r.0.0.1 r.0.1 r.0.0.0.1 r.1)
     refl
 
@@ -106,11 +108,10 @@ pub returns-in-12-2 : goal.returns-in-12-2
 unfolding kind_of
 returns-in-12-2 c =
     let a = c.args in
-    let r = c.in_default-1.rest in
     ⊎_elim (λ q. plan_left a.schema.now a.d a.m _ (ap kind_of (sym q)) (inl refl)) (λ q. plan_left a.schema.now a.d a.m _ (ap kind_of (sym q)) (inr (inl refl)))
-    (left_out a.m.kind c.if-ty-lt7.false c.if-ty-lt14.true r.0.0.0.0.0.0.0.0.1 r.0.0.0.0.0.0.0.1 r.0.0.0.0.0.0.1 r.0.0.0.0.0.1 r.0.0.0.0.1)
+    (left_out a.m.kind c.in-12.if-ty-lt7-own.false c.in-12.if-ty-lt14-own.true c.in-12.in_default-own.rest.0.0.0.0.0.0.0.0.1 c.in-12.in_default-own.rest.0.0.0.0.0.0.0.1 c.in-12.in_default-own.rest.0.0.0.0.0.0.1 c.in-12.in_default-own.rest.0.0.0.0.0.1 c.in-12.in_default-own.rest.0.0.0.0.1)
 
 pub returns-in-3 : goal.returns-in-3
 unfolding kind_of
 returns-in-3 c =
-    let a = c.args in plan_scalar a.schema.now a.d a.m _ (⊎_elim (λ t. ap kind_of (sym t.keys1)) (λ t. two_bytes a.m.kind t.1.left t.2.taken) c.in-3-1.branch) (Kinds.integer 2) _ refl (omega arith) refl (omega arith) c.whole-in-3.ensures
+    let a = c.args in plan_scalar a.schema.now a.d a.m _ (elim c.in-3-1.branch [ in-30-1 w ↦ let e : a.m.kind ≡ 30 = omega arith in ap kind_of (sym e) | in_default+else-ty-lt3+then-ty-lt5 w ↦ two_bytes a.m.kind (omega arith) (omega arith) ]) (Kinds.integer 2) _ refl (omega arith) refl (omega arith) c.whole-in-3.ensures
