@@ -20,7 +20,7 @@ lay_text-requires c =
     let k = 16 + (length a.text.now + 1) in
     let y = paid_yes a.round a.p k c.pay.result c.in-Done.q c.pay.ensures c.in-Done.is in
     let l = leb-true (a.p.charge + k) a.round.cap y.0 in
-    record { safe = (rw y.1 (safe_paid a.round (length a.work.now) a.p k c.requires.safe l, omega (arith, c.requires.safe))).0; text_bound = (rw y.1 (safe_paid a.round (length a.work.now) a.p k c.requires.safe l, omega (arith, c.requires.safe))).1 }
+    record { safe = rw y.1 (safe_paid a.round (length a.work.now) a.p k c.requires.safe l); text_bound = rw y.1 (omega (arith, c.requires.safe)) }
 
 pub put_counted-requires : goal.put_counted-requires
 put_counted-requires c =
