@@ -1,7 +1,7 @@
 -- The pattern that `mag_of` gives is nearest among all patterns, and at a tie its last digit is even. Assumes nothing.
 use mathlib.Core.Path.{◌≡◌, refl, sym, ap, ◌∙◌, subst}
 use mathlib.Core.Bool.{Bool, true, false, cond}
-use mathlib.Core.Logic.{◌⊎◌, ⊎_elim}
+use mathlib.Core.Logic.{⊎_elim}
 use Prim.Native.Nat.{ℕ, zero, suc, ◌+◌, ◌-◌, ◌*◌, ◌/◌, ◌%◌, ◌^◌, ◌≤◌, ◌<◌, zero-le}
 use native.Mathlib.Nat.{mul-le-mul_right, mul-lt-mul_of_pos_right, div-add-mod', mul_assoc}
 use native.Mathlib.Omega.{arith}

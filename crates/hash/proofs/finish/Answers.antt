@@ -1,5 +1,5 @@
 -- `hash::finish` meets its contract, by what the two sums ensure. Assumes nothing.
-use Rattle.std.proofs.Common.{ℕ, ap, ◌∙◌, rules}
+use Rattle.std.proofs.Common.{ℕ, ap, ◌∙◌}
 use Rattle.hash.specs.Joaat.{add_shift, xor_shift, finish_of}
 use Rattle.hash.proofs.finish.Goals as goal
 

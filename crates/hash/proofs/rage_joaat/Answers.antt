@@ -1,6 +1,6 @@
 -- `hash::rage_joaat` meets its contract. The invariant: hashing what is left from h on gives the hash of the whole.
 -- Assumes nothing.
-use Rattle.std.proofs.Common.{◌≡◌, ℕ, ◌+◌, ◌-◌, ◌<◌, ◌≤◌, List, length, get_or, drop, sym, refl, ap, ◌∙◌, add-one, arith, drop_of_length-le, drop-cons, rules}
+use Rattle.std.proofs.Common.{◌≡◌, ℕ, ◌+◌, ◌<◌, ◌≤◌, List, length, get_or, drop, sym, refl, ap, ◌∙◌, add-one, arith, drop_of_length-le, drop-cons}
 use Rattle.hash.specs.Joaat.{step_of, finish_of, hash_from, joaat}
 use Rattle.hash.proofs.rage_joaat.Goals as goal
 

@@ -1,5 +1,5 @@
 -- `hash::step` meets its contract, by what the two sums ensure. Assumes nothing.
-use Rattle.std.proofs.Common.{ap, ◌∙◌, rules}
+use Rattle.std.proofs.Common.{ap, ◌∙◌}
 use Rattle.hash.specs.Joaat.{add_shift, xor_shift, step_of}
 use Rattle.hash.proofs.step.Goals as goal
 

@@ -1,15 +1,9 @@
 -- `sheet::all_ascii` meets its contract. Assumes nothing.
-use mathlib.Core.Path.{◌≡◌, refl, ap, ◌∙◌}
-use mathlib.Core.Bool.{Bool, true, false, cond, ◌&&◌}
-use Prim.Native.Nat.{ℕ, suc, ◌+◌, ◌-◌, ◌≤◌, ◌<◌}
-use native.Mathlib.Omega.{arith}
-use native.Mathlib.Numerals.{add-one}
+use mathlib.Core.Path.{◌≡◌}
+use mathlib.Core.Bool.{◌&&◌}
+use Prim.Native.Nat.{◌-◌, ◌≤◌}
 use lib.Dec.{ltb}
-use lib.ListN.{length, drop, get_or, drop_of_length-le}
-use lib.Seq.{drop-cons}
-use borrow.Author.Rules.{rules}
-use borrow.Author.Tests.{le-ltb, ltb-true, ltb-false}
-use Rattle.numbers.specs.Words.{Bytes}
+use lib.ListN.{length, drop}
 use Rattle.sheet.specs.Layout
 use Rattle.sheet.proofs.all_ascii.Given as goal
 

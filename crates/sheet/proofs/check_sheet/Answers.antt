@@ -1,7 +1,5 @@
 -- `sheet::check_sheet` meets its contract. Assumes nothing.
 use mathlib.Core.Path.{sym, ap, ◌∙◌}
-use borrow.Author.Tests.{not-true, not-false}
-use borrow.Author.Rules.{rules}
 use Rattle.sheet.specs.Layout
 use Rattle.sheet.proofs.Laws
 use Rattle.sheet.proofs.check_sheet.Goals as goal

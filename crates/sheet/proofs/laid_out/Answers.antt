@@ -1,7 +1,5 @@
 -- `sheet::laid_out` meets its contract. Assumes nothing.
 use mathlib.Core.Path.{sym, ◌∙◌}
-use borrow.Author.Tests.{not-true, not-false}
-use borrow.Author.Rules.{rules}
 use Rattle.sheet.proofs.Laws
 use Rattle.sheet.proofs.laid_out.Goals as goal
 

@@ -1,7 +1,6 @@
 -- `sheet::level_at` meets its contract. Assumes nothing.
 use native.Mathlib.Numerals.{add-one}
 use borrow.Author.Tests.{eq-eqb, ne_eqb}
-use borrow.Author.Rules.{rules}
 use Rattle.sheet.proofs.level_at.Goals as goal
 
 pub returns-then-r-w : goal.returns-then-r-w

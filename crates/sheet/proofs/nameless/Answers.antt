@@ -1,10 +1,7 @@
 -- `sheet::nameless` meets its contract. Assumes nothing.
-use mathlib.Core.Path.{◌≡◌, sym, ◌∙◌}
-use Prim.Native.Nat.{◌+◌, ◌-◌, ◌≤◌}
+use mathlib.Core.Path.{sym, ◌∙◌}
 use native.Mathlib.Nat.{add-zero, sub-zero}
 use native.Mathlib.Omega.{arith}
-use borrow.Author.Rules.{rules}
-use Rattle.sheet.specs.Layout
 use Rattle.sheet.proofs.Laws
 use Rattle.sheet.proofs.nameless.Goals as goal
 

@@ -1,11 +1,7 @@
 -- `sheet::nameless` meets its contract. Assumes nothing.
-use mathlib.Core.Path.{◌≡◌, sym, ◌∙◌}
+use mathlib.Core.Path.{◌≡◌}
 use Prim.Native.Nat.{◌+◌, ◌-◌, ◌≤◌}
-use native.Mathlib.Nat.{add-zero, sub-zero}
-use native.Mathlib.Omega.{arith}
-use borrow.Author.Rules.{rules}
 use Rattle.sheet.specs.Layout
-use Rattle.sheet.proofs.Laws
 use Rattle.sheet.proofs.nameless.Given as goal
 
 abbrev pub invariant-loop-i : goal.invariant-loop-i

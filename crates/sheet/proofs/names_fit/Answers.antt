@@ -1,6 +1,5 @@
 -- `sheet::names_fit` meets its contract. Assumes nothing.
 use borrow.Author.Tests.{eq-eqb, ne_eqb}
-use borrow.Author.Rules.{rules}
 use Rattle.sheet.specs.Layout
 use Rattle.sheet.proofs.names_fit.Goals as goal
 

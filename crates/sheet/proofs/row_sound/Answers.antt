@@ -1,5 +1,4 @@
 -- `sheet::row_sound` meets its contract. Assumes nothing.
-use borrow.Author.Rules.{rules}
 use Rattle.sheet.specs.Layout
 use Rattle.sheet.proofs.row_sound.Goals as goal
 

@@ -1,7 +1,6 @@
 -- `sheet::text_bytes` meets its contract. Assumes nothing.
 use native.Mathlib.Omega.{arith}
 use borrow.Author.Tests.{eq-eqb, ne_eqb}
-use borrow.Author.Rules.{rules}
 use Rattle.sheet.proofs.text_bytes.Goals as goal
 
 pub returns-then-k-eq15 : goal.returns-then-k-eq15

@@ -1,13 +1,7 @@
 -- `sheet::walks` meets its contract. Assumes nothing.
-use mathlib.Core.Path.{◌≡◌, sym, ap, ◌∙◌}
+use mathlib.Core.Path.{◌≡◌}
 use Prim.Native.Nat.{◌-◌, ◌*◌, ◌^◌, ◌≤◌}
-use native.Mathlib.Nat.{sub-zero}
-use native.Mathlib.Omega.{arith}
-use borrow.Author.Tests.{not-true, not-false}
-use borrow.Author.Rules.{rules}
-use Rattle.value.specs.Rows
 use Rattle.sheet.specs.Layout
-use Rattle.sheet.proofs.Laws
 use Rattle.sheet.proofs.walks.Given as goal
 
 abbrev pub invariant-loop-v : goal.invariant-loop-v

@@ -1,12 +1,7 @@
 -- `value::field_named` meets its contract. Assumes nothing.
-use mathlib.Core.Path.{◌≡◌, sym, ap, ◌∙◌}
+use mathlib.Core.Path.{◌≡◌}
 use Prim.Native.Nat.{◌+◌, ◌-◌, ◌≤◌}
-use native.Mathlib.Nat.{add-zero, sub-zero}
-use native.Mathlib.Omega.{arith}
-use borrow.Author.Tests.{ne_eqb}
-use borrow.Author.Rules.{rules}
 use Rattle.value.specs.Rows
-use Rattle.value.specs.Answer
 use Rattle.value.proofs.Laws
 use Rattle.value.proofs.field_named.Given as goal
 

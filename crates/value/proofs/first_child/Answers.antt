@@ -1,7 +1,6 @@
 -- `value::first_child` meets its contract. Assumes nothing.
 use native.Mathlib.Omega.{arith}
 use borrow.Author.Tests.{eq-eqb, ne_eqb}
-use borrow.Author.Rules.{rules}
 use Rattle.value.specs.Rows
 use Rattle.value.proofs.first_child.Goals as goal
 

@@ -1,6 +1,5 @@
 -- `value::read_row` meets its contract. Assumes nothing.
 use native.Mathlib.Omega.{arith}
-use borrow.Author.Rules.{rules}
 use Rattle.numbers.proofs.Parts.{read_one}
 use Rattle.value.proofs.Laws
 use Rattle.value.proofs.read_row.Goals as goal

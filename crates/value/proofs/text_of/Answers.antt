@@ -1,5 +1,4 @@
 -- `value::text_of` meets its contract. Assumes nothing.
-use borrow.Author.Rules.{rules}
 use Rattle.value.specs.Rows
 use Rattle.value.proofs.text_of.Goals as goal
 

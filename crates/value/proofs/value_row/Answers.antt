@@ -1,6 +1,5 @@
 -- `value::value_row` meets its contract. Assumes nothing.
 use mathlib.Core.Path.{◌∙◌}
-use borrow.Author.Rules.{rules}
 use Rattle.value.proofs.Laws
 use Rattle.value.proofs.value_row.Goals as goal
 

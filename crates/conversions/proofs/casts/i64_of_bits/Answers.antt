@@ -3,7 +3,6 @@ use mathlib.Core.Path.{◌∙◌}
 use Prim.Native.Nat.{◌-◌, ◌^◌, ◌<◌}
 use native.Mathlib.Omega.{arith}
 use mir.Syntax.{w64}
-use borrow.Author.Rules.{rules}
 use Rattle.conversions.proofs.Signs.{down, down_read, to_z_high, signed64}
 use Rattle.conversions.proofs.casts.i64_of_bits.Goals as goal
 

@@ -4,7 +4,6 @@ use Prim.Native.Nat.{◌-◌, ◌^◌, ◌<◌}
 use native.Mathlib.Omega.{arith}
 use mir.Syntax.{w32, w64}
 use mir.Facts.{to_z_pos}
-use borrow.Author.Rules.{rules}
 use Rattle.conversions.proofs.Signs.{down, down_read, to_z_high, signed32}
 use Rattle.conversions.proofs.casts.i64_of_bits32.Goals as goal
 

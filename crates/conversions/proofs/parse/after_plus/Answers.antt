@@ -1,7 +1,6 @@
 -- `conversions::parse::after_plus` meets its contract. Assumes nothing.
 use mathlib.Core.Path.{◌∙◌}
 use native.Mathlib.Omega.{arith}
-use borrow.Author.Rules.{rules}
 use Rattle.numbers.proofs.Parts.{part_rest}
 use Rattle.conversions.proofs.Integers.{after_is, after_same}
 use Rattle.conversions.proofs.parse.after_plus.Goals as goal

@@ -1,6 +1,5 @@
 -- `conversions::parse::first` meets its contract. Assumes nothing.
 use native.Mathlib.Omega.{arith}
-use borrow.Author.Rules.{rules}
 use Rattle.conversions.proofs.Integers.{first_none}
 use Rattle.conversions.proofs.parse.first.Goals as goal
 

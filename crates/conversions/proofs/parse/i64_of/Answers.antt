@@ -3,7 +3,6 @@ use mathlib.Core.Path.{ap, ◌∙◌}
 use mathlib.Core.List.{List}
 use Prim.Native.Nat.{ℕ, ◌-◌, ◌^◌}
 use native.Mathlib.Omega.{arith}
-use borrow.Author.Rules.{rules}
 use Rattle.conversions.specs.Radix.{digits}
 use Rattle.conversions.specs.Answer.{number_is, plus_is, minus_is}
 use Rattle.numbers.proofs.Parts.{part_rest}

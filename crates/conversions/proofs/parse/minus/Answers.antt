@@ -6,7 +6,6 @@ use lib.IntN.{pos, negsuc, neg_ℤ, ◌-ℤ◌}
 use mir.Syntax.{w64}
 use mir.Val.{of_z, to_z}
 use mir.Facts.{to_z_pos, to_z-of_z}
-use borrow.Author.Rules.{rules}
 use Rattle.conversions.proofs.parse.minus.Goals as goal
 
 minus_one : (k : ℕ) → negsuc 0 -ℤ pos k ≡ negsuc k

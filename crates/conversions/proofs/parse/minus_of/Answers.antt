@@ -1,5 +1,4 @@
 -- `conversions::parse::minus_of` meets its contract. Assumes nothing.
-use borrow.Author.Rules.{rules}
 use Rattle.conversions.proofs.Integers.{minus_in, minus_out}
 use Rattle.conversions.proofs.parse.minus_of.Goals as goal
 

@@ -1,5 +1,4 @@
 -- `conversions::parse::plus_of` meets its contract. Assumes nothing.
-use borrow.Author.Rules.{rules}
 use Rattle.conversions.proofs.Integers.{plus_in, plus_out}
 use Rattle.conversions.proofs.parse.plus_of.Goals as goal
 

@@ -1,11 +1,8 @@
 -- `conversions::parse::read_digits` meets its contract. The invariant: the digits from i on, after n, give what all the digits give. Assumes nothing.
-use mathlib.Core.Path.{◌≡◌, sym, ap, ◌∙◌}
-use Prim.Native.Nat.{◌+◌, ◌-◌, ◌*◌, ◌≤◌}
-use native.Mathlib.Omega.{arith}
+use mathlib.Core.Path.{◌≡◌}
+use Prim.Native.Nat.{◌-◌, ◌≤◌}
 use lib.ListN.{length, drop}
 use Rattle.conversions.specs.Radix.{number, up_to, digits}
-use Rattle.conversions.specs.Answer.{number_is}
-use Rattle.conversions.proofs.Integers.{digits_is, digits_none, turn, bad, full, room, done}
 use Rattle.conversions.proofs.parse.read_digits.Given as goal
 
 abbrev pub invariant-loop-i : goal.invariant-loop-i

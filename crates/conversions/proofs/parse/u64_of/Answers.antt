@@ -2,7 +2,6 @@
 use mathlib.Core.Path.{ap, ◌∙◌}
 use mathlib.Core.List.{List}
 use Prim.Native.Nat.{ℕ, ◌-◌, ◌^◌}
-use borrow.Author.Rules.{rules}
 use Rattle.conversions.specs.Radix.{digits, unsigned}
 use Rattle.conversions.specs.Answer.{number_is}
 use Rattle.conversions.proofs.parse.u64_of.Goals as goal

@@ -4,7 +4,6 @@ use Prim.Native.Nat.{◌-◌, ◌^◌, ◌<◌}
 use native.Mathlib.Omega.{arith}
 use mir.Syntax.{w64}
 use mir.Facts.{to_z_pos}
-use borrow.Author.Rules.{rules}
 use Rattle.conversions.proofs.Trunc.{sfits_neg, minus_is_law, minus_read}
 use Rattle.conversions.proofs.Rest.{sub_less, sub_more}
 use Rattle.conversions.proofs.single.difference.Goals as goal

@@ -6,7 +6,6 @@ use lib.IntN.{ℤ, nat_abs}
 use mir.Syntax.{w64}
 use mir.Val.{SFits, of_z, to_z}
 use mir.Facts.{Fits-nat_abs, to_z-of_z}
-use borrow.Author.Rules.{rules}
 use Rattle.conversions.specs.Round.{Nearest, mag_of, f32_of}
 use Rattle.conversions.proofs.Best.{mag_of_high}
 use Rattle.conversions.proofs.Nearest.{f32_of_nearest}

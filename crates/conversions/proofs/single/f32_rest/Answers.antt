@@ -7,7 +7,6 @@ use lib.Signed.{nat_abs-le}
 use mir.Syntax.{w64}
 use mir.Val.{SFits, of_z, to_z}
 use mir.Facts.{to_z-of_z}
-use borrow.Author.Rules.{rules}
 use Rattle.conversions.specs.Single.{value}
 use Rattle.conversions.specs.Round.{mag_of, f32_of}
 use Rattle.conversions.specs.Trunc.{whole}

@@ -6,7 +6,6 @@ use lib.IntN.{pos, negsuc, neg_ℤ, ◌-ℤ◌}
 use mir.Syntax.{w64}
 use mir.Val.{of_z, to_z}
 use mir.Facts.{to_z_pos}
-use borrow.Author.Rules.{rules}
 use Rattle.conversions.specs.Single.{low, inf}
 use Rattle.conversions.specs.Trunc.{whole, i64_of}
 use Rattle.conversions.proofs.Trunc.{whole_under, whole_over, i64_of_nan, i64_of_plus, i64_of_minus, sfits_neg, minus_is_law, minus_read}

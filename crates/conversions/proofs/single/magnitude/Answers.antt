@@ -2,7 +2,6 @@
 use mathlib.Core.Path.{ap}
 use native.Mathlib.Omega.{arith}
 use lib.IntN.{nat_abs}
-use borrow.Author.Rules.{rules}
 use Rattle.conversions.proofs.Signs.{is_below, is_above}
 use Rattle.conversions.proofs.single.magnitude.Goals as goal
 

@@ -1,7 +1,6 @@
 -- `conversions::single::whole_of` meets its contract, by the exponent. Assumes nothing.
 use mathlib.Core.Path.{sym}
 use native.Mathlib.Omega.{arith}
-use borrow.Author.Rules.{rules}
 use Rattle.conversions.proofs.Trunc.{whole_none, whole_mid, whole_big}
 use Rattle.conversions.proofs.single.whole_of.Goals as goal
 

@@ -1,7 +1,6 @@
 -- `numbers::words::byte_of` meets its contract. Assumes nothing.
 use mathlib.Core.Path.{ap}
 use Prim.Native.Nat.{ℕ, ◌/◌, ◌%◌}
-use borrow.Author.Rules.{rules}
 use Rattle.numbers.proofs.Laws
 use Rattle.numbers.proofs.words.byte_of.Goals as goal
 

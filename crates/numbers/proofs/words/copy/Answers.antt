@@ -1,9 +1,8 @@
 -- `numbers::words::copy` meets its contract. Assumes nothing.
-use mathlib.Core.Path.{◌≡◌, refl, ◌∙◌}
-use Prim.Native.Nat.{◌+◌, ◌-◌, ◌≤◌}
+use mathlib.Core.Path.{refl, ◌∙◌}
+use Prim.Native.Nat.{◌+◌}
 use native.Mathlib.Omega.{arith}
-use lib.ListN.{length, drop, length-set}
-use Rattle.numbers.specs.Words.{over}
+use lib.ListN.{length-set}
 use Rattle.numbers.proofs.Laws
 use Rattle.numbers.proofs.words.copy.Goals as goal
 

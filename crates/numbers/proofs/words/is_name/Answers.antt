@@ -1,6 +1,5 @@
 -- `numbers::words::is_name` meets its contract. Assumes nothing.
 use native.Mathlib.Omega.{arith}
-use borrow.Author.Rules.{rules}
 use Rattle.numbers.proofs.Equal
 use Rattle.numbers.proofs.words.is_name.Goals as goal
 

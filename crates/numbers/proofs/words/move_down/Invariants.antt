@@ -1,10 +1,8 @@
 -- `numbers::words::move_down` meets its contract. Assumes nothing.
-use mathlib.Core.Path.{◌≡◌, refl, ◌∙◌}
+use mathlib.Core.Path.{◌≡◌}
 use Prim.Native.Nat.{◌+◌, ◌-◌, ◌≤◌}
-use native.Mathlib.Omega.{arith}
-use lib.ListN.{length, take, drop, length-set}
+use lib.ListN.{length, take, drop}
 use Rattle.numbers.specs.Words.{over}
-use Rattle.numbers.proofs.Laws
 use Rattle.numbers.proofs.words.move_down.Given as goal
 
 abbrev pub invariant-loop-i : goal.invariant-loop-i

@@ -1,9 +1,7 @@
 -- `numbers::words::move_up` meets its contract. Assumes nothing.
-use mathlib.Core.Path.{◌≡◌, refl, ◌∙◌}
-use Prim.Native.Nat.{◌-◌, ◌≤◌}
+use mathlib.Core.Path.{refl, ◌∙◌}
 use native.Mathlib.Omega.{arith}
-use lib.ListN.{length, take, drop, length-set}
-use Rattle.numbers.specs.Words.{over}
+use lib.ListN.{length-set}
 use Rattle.numbers.proofs.Laws
 use Rattle.numbers.proofs.words.move_up.Goals as goal
 

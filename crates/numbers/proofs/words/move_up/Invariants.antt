@@ -1,10 +1,8 @@
 -- `numbers::words::move_up` meets its contract. Assumes nothing.
-use mathlib.Core.Path.{◌≡◌, refl, ◌∙◌}
-use Prim.Native.Nat.{◌-◌, ◌≤◌}
-use native.Mathlib.Omega.{arith}
-use lib.ListN.{length, take, drop, length-set}
+use mathlib.Core.Path.{◌≡◌}
+use Prim.Native.Nat.{◌≤◌}
+use lib.ListN.{length, take, drop}
 use Rattle.numbers.specs.Words.{over}
-use Rattle.numbers.proofs.Laws
 use Rattle.numbers.proofs.words.move_up.Given as goal
 
 abbrev pub invariant-loop-left : goal.invariant-loop-left

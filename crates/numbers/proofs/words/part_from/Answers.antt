@@ -1,5 +1,4 @@
 -- `numbers::words::part_from` meets its contract. Assumes nothing.
-use borrow.Author.Rules.{rules}
 use Rattle.numbers.proofs.Parts.{part_none, part_rest}
 use Rattle.numbers.proofs.words.part_from.Goals as goal
 

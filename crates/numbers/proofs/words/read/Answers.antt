@@ -1,10 +1,5 @@
 -- `numbers::words::read` meets its contract. Assumes nothing.
-use mathlib.Core.Path.{◌≡◌}
-use Prim.Native.Nat.{◌-◌, ◌^◌, ◌≤◌, ◌<◌}
 use native.Mathlib.Omega.{arith}
-use borrow.Author.Rules.{rules}
-use lib.ListN.{take, drop}
-use Rattle.numbers.specs.Words.{number, read_at}
 use Rattle.numbers.proofs.Parts
 use Rattle.numbers.proofs.words.read.Goals as goal
 

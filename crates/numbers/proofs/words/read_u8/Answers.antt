@@ -1,6 +1,5 @@
 -- `numbers::words::read_u8` meets its contract. Assumes nothing.
 use mathlib.Core.Path.{sym}
-use borrow.Author.Rules.{rules}
 use Rattle.numbers.proofs.Parts
 use Rattle.numbers.proofs.words.read_u8.Goals as goal
 

@@ -1,9 +1,6 @@
 -- `numbers::words::same` meets its contract. Assumes nothing.
-use mathlib.Core.Path.{◌≡◌, refl, ◌∙◌, sym}
-use Prim.Native.Nat.{◌-◌, ◌≤◌}
+use mathlib.Core.Path.{refl, ◌∙◌, sym}
 use native.Mathlib.Omega.{arith}
-use lib.ListN.{length, drop}
-use Rattle.numbers.specs.Words.{same_bytes}
 use Rattle.numbers.proofs.Equal
 use Rattle.numbers.proofs.words.same.Goals as goal
 

@@ -1,10 +1,8 @@
 -- `numbers::words::same` meets its contract. Assumes nothing.
-use mathlib.Core.Path.{◌≡◌, refl, ◌∙◌, sym}
+use mathlib.Core.Path.{◌≡◌}
 use Prim.Native.Nat.{◌-◌, ◌≤◌}
-use native.Mathlib.Omega.{arith}
 use lib.ListN.{length, drop}
 use Rattle.numbers.specs.Words.{same_bytes}
-use Rattle.numbers.proofs.Equal
 use Rattle.numbers.proofs.words.same.Given as goal
 
 abbrev pub invariant-loop-i : goal.invariant-loop-i

@@ -1,7 +1,6 @@
 -- `numbers::words::u16_at` meets its contract. Assumes nothing.
 use mathlib.Core.Path.{◌∙◌}
 use native.Mathlib.Omega.{arith}
-use borrow.Author.Rules.{rules}
 use Rattle.numbers.proofs.Parts
 use Rattle.numbers.proofs.words.u16_at.Goals as goal
 

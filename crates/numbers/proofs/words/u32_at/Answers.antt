@@ -1,6 +1,5 @@
 -- `numbers::words::u32_at` meets its contract. Assumes nothing.
 use mathlib.Core.Path.{◌∙◌}
-use borrow.Author.Rules.{rules}
 use Rattle.numbers.proofs.Parts
 use Rattle.numbers.proofs.words.u32_at.Goals as goal
 

@@ -1,11 +1,8 @@
 -- `numbers::words::write` meets its contract. Assumes nothing.
-use mathlib.Core.Path.{◌≡◌, refl, sym, ap, ◌∙◌}
-use Prim.Native.Nat.{ℕ, ◌+◌, ◌-◌, ◌/◌, ◌%◌, ◌≤◌}
-use native.Mathlib.Omega.{arith}
-use borrow.Author.Rules.{rules}
-use lib.ListN.{length, length-set}
+use mathlib.Core.Path.{◌≡◌}
+use Prim.Native.Nat.{◌+◌, ◌≤◌}
+use lib.ListN.{length}
 use Rattle.numbers.specs.Words.{bytes_of, over}
-use Rattle.numbers.proofs.Laws
 use Rattle.numbers.proofs.words.write.Given as goal
 
 abbrev pub invariant-loop-left : goal.invariant-loop-left

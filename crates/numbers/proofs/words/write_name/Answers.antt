@@ -1,6 +1,5 @@
 -- `numbers::words::write_name` meets its contract. Assumes nothing.
 use native.Mathlib.Omega.{arith}
-use borrow.Author.Rules.{rules}
 use lib.ListN.{length-set}
 use Rattle.numbers.proofs.Laws
 use Rattle.numbers.proofs.words.write_name.Goals as goal

@@ -1,6 +1,5 @@
 -- `schema::check::beyond` meets its contract. Assumes nothing.
 use Rattle.schema.proofs.Judge.{past_some}
-use borrow.Author.Rules.{rules}
 use Rattle.schema.proofs.check.beyond.Goals as goal
 
 pub returns : goal.returns

@@ -1,12 +1,7 @@
 -- `schema::check::check_psch` meets its contract. Assumes nothing.
-use mathlib.Core.Path.{◌≡◌, sym, ◌∙◌}
-use Prim.Native.Nat.{◌+◌, ◌-◌, ◌*◌, ◌≤◌}
+use mathlib.Core.Path.{sym, ◌∙◌}
 use native.Mathlib.Omega.{arith}
-use lib.ListN.{length}
-use borrow.Author.Rules.{rules}
-use Rattle.numbers.specs.Result.{map_result}
-use Rattle.schema.specs.Psch.{defs_from, psch_of}
-use Rattle.schema.proofs.Counts.{more, psch_short, psch_past, begin, turn, stop, finish}
+use Rattle.schema.proofs.Counts.{psch_short, psch_past, begin, turn, stop, finish}
 use Rattle.schema.proofs.check.check_psch.Goals as goal
 
 pub returns-then-p-lt12 : goal.returns-then-p-lt12

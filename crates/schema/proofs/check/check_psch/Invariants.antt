@@ -1,12 +1,10 @@
 -- `schema::check::check_psch` meets its contract. Assumes nothing.
-use mathlib.Core.Path.{◌≡◌, sym, ◌∙◌}
+use mathlib.Core.Path.{◌≡◌}
 use Prim.Native.Nat.{◌+◌, ◌-◌, ◌*◌, ◌≤◌}
-use native.Mathlib.Omega.{arith}
 use lib.ListN.{length}
-use borrow.Author.Rules.{rules}
 use Rattle.numbers.specs.Result.{map_result}
 use Rattle.schema.specs.Psch.{defs_from, psch_of}
-use Rattle.schema.proofs.Counts.{more, psch_short, psch_past, begin, turn, stop, finish}
+use Rattle.schema.proofs.Counts.{more}
 use Rattle.schema.proofs.check.check_psch.Given as goal
 
 abbrev pub invariant-loop-i : goal.invariant-loop-i

@@ -1,10 +1,7 @@
 -- `schema::check::check_schema` meets its contract. Assumes nothing.
-use Prim.Native.Nat.{◌-◌, ◌*◌, ◌≤◌}
 use native.Mathlib.Omega.{arith}
-use lib.ListN.{length}
-use borrow.Author.Rules.{rules}
 use Rattle.schema.proofs.Walk.{onward, ended, broke}
-use Rattle.schema.proofs.Counts.{Going, first, at_end_law, at_broken, refuses, fewer, goes_on}
+use Rattle.schema.proofs.Counts.{first, at_end_law, at_broken, refuses, fewer, goes_on}
 use Rattle.schema.proofs.check.check_schema.Goals as goal
 
 pub loop-place-init : goal.loop-place-init

@@ -1,9 +1,7 @@
 -- `schema::check::check_section` meets its contract. Assumes nothing.
 use Rattle.schema.proofs.Walk.{part_is}
 use native.Mathlib.Omega.{arith}
-use borrow.Author.Tests.{not-true, not-false}
 use Rattle.schema.proofs.Counts.{other, psch}
-use borrow.Author.Rules.{rules}
 use Rattle.schema.proofs.check.check_section.Goals as goal
 
 pub returns-then-not-is_name : goal.returns-then-not-is_name

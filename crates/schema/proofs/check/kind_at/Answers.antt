@@ -1,7 +1,6 @@
 -- `schema::check::kind_at` meets its contract. Assumes nothing.
 use mathlib.Core.Path.{sym, ◌∙◌}
 use Rattle.schema.proofs.Judge.{no_start, no_head, no_members, a_struct, no_entries, an_enum, no_kind}
-use borrow.Author.Rules.{rules}
 use Rattle.schema.proofs.check.kind_at.Goals as goal
 
 pub returns-then-p-at : goal.returns-then-p-at

@@ -1,5 +1,4 @@
 -- `texts::float::after_sign` meets its contract. Assumes nothing.
-use borrow.Author.Rules.{rules}
 use Rattle.texts.proofs.Decimals
 use Rattle.texts.proofs.float.after_sign.Goals as goal
 

@@ -1,5 +1,4 @@
 -- `texts::float::decimal` meets its contract. Assumes nothing.
-use borrow.Author.Rules.{rules}
 use Rattle.texts.proofs.Decimals
 use Rattle.texts.proofs.float.decimal.Goals as goal
 

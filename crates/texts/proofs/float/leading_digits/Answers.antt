@@ -1,11 +1,7 @@
 -- `texts::float::leading_digits` meets its contract. Assumes nothing.
-use mathlib.Core.Path.{◌≡◌, sym, ◌∙◌}
-use Prim.Native.Nat.{◌-◌, ◌+◌, ◌≤◌}
+use mathlib.Core.Path.{sym, ◌∙◌}
 use native.Mathlib.Nat.{zero-add}
 use native.Mathlib.Omega.{arith}
-use borrow.Author.Tests.{not-true, not-false}
-use lib.ListN.{length, drop}
-use Rattle.texts.specs.Float.{leading_digits}
 use Rattle.texts.proofs.Decimals
 use Rattle.texts.proofs.float.leading_digits.Goals as goal
 

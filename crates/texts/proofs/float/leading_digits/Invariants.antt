@@ -1,12 +1,8 @@
 -- `texts::float::leading_digits` meets its contract. Assumes nothing.
-use mathlib.Core.Path.{◌≡◌, sym, ◌∙◌}
+use mathlib.Core.Path.{◌≡◌}
 use Prim.Native.Nat.{◌-◌, ◌+◌, ◌≤◌}
-use native.Mathlib.Nat.{zero-add}
-use native.Mathlib.Omega.{arith}
-use borrow.Author.Tests.{not-true, not-false}
 use lib.ListN.{length, drop}
 use Rattle.texts.specs.Float.{leading_digits}
-use Rattle.texts.proofs.Decimals
 use Rattle.texts.proofs.float.leading_digits.Given as goal
 
 abbrev pub invariant-loop-i : goal.invariant-loop-i

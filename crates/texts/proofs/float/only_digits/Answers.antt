@@ -1,5 +1,4 @@
 -- `texts::float::only_digits` meets its contract. Assumes nothing.
-use borrow.Author.Rules.{rules}
 use Rattle.texts.proofs.Decimals
 use Rattle.texts.proofs.float.only_digits.Goals as goal
 

@@ -1,5 +1,4 @@
 -- `texts::float::parses_float` meets its contract. Assumes nothing.
-use borrow.Author.Rules.{rules}
 use Rattle.texts.proofs.Decimals
 use Rattle.texts.proofs.float.parses_float.Goals as goal
 

@@ -1,9 +1,6 @@
 -- `texts::text::end_of` meets its contract: what is from e on is white space. Assumes nothing.
-use mathlib.Core.Path.{◌≡◌, sym, ap, ◌∙◌}
-use Prim.Native.Nat.{◌≤◌}
+use mathlib.Core.Path.{sym, ap, ◌∙◌}
 use native.Mathlib.Omega.{arith}
-use borrow.Author.Tests.{not-true, not-false}
-use lib.ListN.{length, take}
 use lib.Seq.{take-length}
 use Rattle.texts.specs.Text.{trim_end}
 use Rattle.texts.proofs.Ends.{end_space, end_stop, end_none}

@@ -1,12 +1,8 @@
 -- `texts::text::end_of` meets its contract: what is from e on is white space. Assumes nothing.
-use mathlib.Core.Path.{◌≡◌, sym, ap, ◌∙◌}
+use mathlib.Core.Path.{◌≡◌}
 use Prim.Native.Nat.{◌≤◌}
-use native.Mathlib.Omega.{arith}
-use borrow.Author.Tests.{not-true, not-false}
 use lib.ListN.{length, take}
-use lib.Seq.{take-length}
 use Rattle.texts.specs.Text.{trim_end}
-use Rattle.texts.proofs.Ends.{end_space, end_stop, end_none}
 use Rattle.texts.proofs.text.end_of.Given as goal
 
 abbrev pub invariant-loop-e : goal.invariant-loop-e

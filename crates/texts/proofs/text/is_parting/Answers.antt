@@ -1,5 +1,4 @@
 -- `texts::text::is_parting` meets its contract. Assumes nothing.
-use borrow.Author.Rules.{rules}
 use Rattle.texts.proofs.text.is_parting.Goals as goal
 
 pub returns : goal.returns

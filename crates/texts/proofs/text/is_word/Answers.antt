@@ -1,9 +1,6 @@
 -- `texts::text::is_word` meets its contract. Assumes nothing.
-use mathlib.Core.Path.{◌≡◌, refl, sym, ◌∙◌}
-use Prim.Native.Nat.{◌-◌, ◌≤◌}
+use mathlib.Core.Path.{refl, sym, ◌∙◌}
 use native.Mathlib.Omega.{arith}
-use lib.ListN.{length, drop}
-use Rattle.texts.specs.Text.{is_word}
 use Rattle.texts.proofs.Letters
 use Rattle.texts.proofs.text.is_word.Goals as goal
 

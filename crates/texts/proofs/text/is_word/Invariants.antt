@@ -1,10 +1,8 @@
 -- `texts::text::is_word` meets its contract. Assumes nothing.
-use mathlib.Core.Path.{◌≡◌, refl, sym, ◌∙◌}
+use mathlib.Core.Path.{◌≡◌}
 use Prim.Native.Nat.{◌-◌, ◌≤◌}
-use native.Mathlib.Omega.{arith}
 use lib.ListN.{length, drop}
 use Rattle.texts.specs.Text.{is_word}
-use Rattle.texts.proofs.Letters
 use Rattle.texts.proofs.text.is_word.Given as goal
 
 abbrev pub invariant-loop-i : goal.invariant-loop-i

@@ -1,6 +1,5 @@
 -- `texts::text::small` meets its contract. Assumes nothing.
 use borrow.Author.Tests.{le-leb, lt-leb}
-use borrow.Author.Rules.{rules}
 use Rattle.texts.proofs.text.small.Goals as goal
 
 pub returns-then-b-lt65 : goal.returns-then-b-lt65

@@ -1,11 +1,8 @@
 -- `texts::text::start_of` meets its contract: what is before i is white space. Assumes nothing.
-use mathlib.Core.Path.{◌≡◌, refl, sym, ◌∙◌}
+use mathlib.Core.Path.{◌≡◌}
 use Prim.Native.Nat.{◌-◌, ◌≤◌}
-use native.Mathlib.Omega.{arith}
-use borrow.Author.Tests.{not-true, not-false}
 use lib.ListN.{length, drop}
 use Rattle.texts.specs.Text.{trim_start}
-use Rattle.texts.proofs.Ends.{start_space, start_stop, start_none}
 use Rattle.texts.proofs.text.start_of.Given as goal
 
 abbrev pub invariant-loop-i : goal.invariant-loop-i

@@ -1,9 +1,6 @@
 -- `texts::text::starts_with` meets its contract. Assumes nothing.
-use mathlib.Core.Path.{◌≡◌, refl, sym, ◌∙◌}
-use Prim.Native.Nat.{◌-◌, ◌≤◌}
+use mathlib.Core.Path.{refl, sym, ◌∙◌}
 use native.Mathlib.Omega.{arith}
-use lib.ListN.{length, drop}
-use Rattle.numbers.specs.Words.{starts_with}
 use Rattle.texts.proofs.Prefix.{short, step, differ, done}
 use Rattle.texts.proofs.text.starts_with.Goals as goal
 

@@ -1,10 +1,8 @@
 -- `texts::text::starts_with` meets its contract. Assumes nothing.
-use mathlib.Core.Path.{◌≡◌, refl, sym, ◌∙◌}
+use mathlib.Core.Path.{◌≡◌}
 use Prim.Native.Nat.{◌-◌, ◌≤◌}
-use native.Mathlib.Omega.{arith}
 use lib.ListN.{length, drop}
 use Rattle.numbers.specs.Words.{starts_with}
-use Rattle.texts.proofs.Prefix.{short, step, differ, done}
 use Rattle.texts.proofs.text.starts_with.Given as goal
 
 abbrev pub invariant-loop-i : goal.invariant-loop-i

@@ -1,6 +1,5 @@
 -- `texts::text::trim` meets its contract: the front's white space is cut, and then the end's. Assumes nothing.
 use mathlib.Core.Path.{sym, ap, ◌∙◌}
-use Prim.Native.Nat.{◌-◌}
 use lib.Seq.{length-take-le}
 use borrow.Author.Rules.{rules}
 use Rattle.texts.specs.Text.{trim_end, trimmed}

@@ -1,10 +1,7 @@
 -- `texts::text::until_parting` meets its contract. Assumes nothing.
-use mathlib.Core.Path.{◌≡◌, sym, ◌∙◌}
-use Prim.Native.Nat.{◌-◌, ◌+◌, ◌≤◌}
+use mathlib.Core.Path.{sym, ◌∙◌}
 use native.Mathlib.Nat.{zero-add}
 use native.Mathlib.Omega.{arith}
-use lib.ListN.{length, drop}
-use Rattle.texts.specs.Text.{until_parting}
 use Rattle.texts.proofs.Splits
 use Rattle.texts.proofs.text.until_parting.Goals as goal
 

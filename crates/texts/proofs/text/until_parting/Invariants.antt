@@ -1,11 +1,8 @@
 -- `texts::text::until_parting` meets its contract. Assumes nothing.
-use mathlib.Core.Path.{◌≡◌, sym, ◌∙◌}
+use mathlib.Core.Path.{◌≡◌}
 use Prim.Native.Nat.{◌-◌, ◌+◌, ◌≤◌}
-use native.Mathlib.Nat.{zero-add}
-use native.Mathlib.Omega.{arith}
 use lib.ListN.{length, drop}
 use Rattle.texts.specs.Text.{until_parting}
-use Rattle.texts.proofs.Splits
 use Rattle.texts.proofs.text.until_parting.Given as goal
 
 abbrev pub invariant-loop-i : goal.invariant-loop-i

@@ -2,7 +2,6 @@
 use mathlib.Core.Path.{refl}
 use native.Mathlib.Omega.{arith}
 use Rattle.schema.proofs.Walk.{at_end_law, at_short, at_long, at_section}
-use borrow.Author.Rules.{rules}
 use Rattle.schema.proofs.cursor.Cursor.step.Goals as goal
 
 pub returns-then-n-lt8 : goal.returns-then-n-lt8
