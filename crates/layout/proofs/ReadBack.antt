@@ -16,8 +16,8 @@ use Rattle.schema.specs.Psch.{Def, psch_of, schema_from, schema_of}
 use Rattle.schema.proofs.Bounds.{Fits, winning_fits}
 use Rattle.pso.specs.Reader as R
 use Rattle.pso.specs.Answers.{data_from, data_at}
-use Rattle.layout.specs.State.{Block, Core}
-use Rattle.layout.specs.Assemble.{data_of, psin_of, pmap_of, used_of, file_of}
+use Rattle.layout.specs.State.{Core}
+use Rattle.layout.specs.Assemble.{data_of, psin_of, used_of, file_of}
 use Rattle.layout.specs.Build.{Laid, packed}
 use Rattle.layout.specs.Demand3.{places_from, read_back}
 use Rattle.layout.specs.Always.{Tiled}

@@ -10,7 +10,7 @@ use Rattle.schema.specs.Defs.{StructDef, Member}
 use Rattle.layout.specs.State.{Core, Env, Out, done, stop, M, use_struct_c, use_enum_c, add_item, add_item_c}
 use Rattle.layout.specs.Kinds
 use Rattle.layout.specs.Runs.{run, struct_element, elements, element_run}
-use Rattle.layout.specs.Write.{pair_element, write, root}
+use Rattle.layout.specs.Write.{pair_element, write}
 use Rattle.layout.specs.Slots.{Further}
 use Rattle.layout.specs.Parts.{Stays, OnlyAdds, LaidStays}
 use Rattle.layout.proofs.Keep.{Claim, Okay, Keeps, k_ret, k_bind, k_if, r_keeps}

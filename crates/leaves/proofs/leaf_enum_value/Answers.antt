@@ -1,7 +1,6 @@
 -- `leaves::leaf_enum_value` meets its contract. Assumes nothing.
 use mathlib.Core.Path.{ap, ◌∙◌}
 use Prim.Native.Nat.{◌^◌}
-use borrow.Author.Rules.{rules}
 use borrow.Author.Tests.{lt-ltb, le-ltb}
 use Rattle.schema.specs.Psch.{entries_at}
 use Rattle.coerce.specs.Answer.{bits_is}

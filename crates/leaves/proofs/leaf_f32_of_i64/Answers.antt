@@ -2,7 +2,6 @@
 use mathlib.Core.Path.{subst}
 use lib.IntN.{ℤ}
 use mir.Facts.{to_z-of_z}
-use borrow.Author.Rules.{rules}
 use Rattle.conversions.specs.Round.{Rounded}
 use Rattle.leaves.proofs.leaf_f32_of_i64.Goals as goal
 

@@ -4,7 +4,6 @@ use Prim.Native.Nat.{◌^◌}
 use mir.Syntax.{w64}
 use lib.IntN.{ℤ, pos, ◌-ℤ◌, ◌*ℤ◌}
 use mir.Facts.{to_z-of_z}
-use borrow.Author.Rules.{rules}
 use Rattle.conversions.specs.Single.{value}
 use Rattle.conversions.specs.Round.{f32_of}
 use Rattle.leaves.proofs.leaf_f32_rest.Goals as goal

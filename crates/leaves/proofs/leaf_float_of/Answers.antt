@@ -1,6 +1,5 @@
 -- `leaves::leaf_float_of` meets its contract. Assumes nothing.
 use mathlib.Core.Path.{ap, ◌∙◌}
-use borrow.Author.Rules.{rules}
 use Rattle.coerce.specs.Answer.{bits_is}
 use Rattle.coerce.specs.Numbers.{float_of}
 use Rattle.value.specs.Rows.{Row}

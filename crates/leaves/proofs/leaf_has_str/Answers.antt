@@ -1,6 +1,5 @@
 -- `leaves::leaf_has_str` meets its contract. Assumes nothing.
 use mathlib.Core.Path.{ap, ◌∙◌}
-use borrow.Author.Rules.{rules}
 use Rattle.value.specs.Rows.{Row}
 use Rattle.leaves.specs.Codes
 use Rattle.leaves.proofs.leaf_has_str.Goals as goal

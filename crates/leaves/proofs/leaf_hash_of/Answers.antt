@@ -1,6 +1,5 @@
 -- `leaves::leaf_hash_of` meets its contract. Assumes nothing.
 use mathlib.Core.Path.{ap, ◌∙◌}
-use borrow.Author.Rules.{rules}
 use Rattle.conversions.specs.Answer.{word_is}
 use Rattle.names.specs.Names.{hash_of}
 use Rattle.value.specs.Rows.{Row}

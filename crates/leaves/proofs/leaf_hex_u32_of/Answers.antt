@@ -1,6 +1,5 @@
 -- `leaves::leaf_hex_u32_of` meets its contract. Assumes nothing.
 use mathlib.Core.Path.{ap, ◌∙◌}
-use borrow.Author.Rules.{rules}
 use Rattle.leaves.specs.Codes
 use Rattle.leaves.proofs.leaf_hex_u32_of.Goals as goal
 

@@ -2,7 +2,6 @@
 use mathlib.Core.Path.{sym, ap, ◌∙◌}
 use mir.Facts.{to_z-of_z}
 use lib.IntN.{ℤ}
-use borrow.Author.Rules.{rules}
 use borrow.Author.Tests.{le-leb, lt-leb}
 use Rattle.leaves.specs.declared.Signed.{Signed}
 use Rattle.leaves.specs.Codes

@@ -1,6 +1,5 @@
 -- `leaves::leaf_int_of` meets its contract. Assumes nothing.
 use mathlib.Core.Path.{ap, ◌∙◌}
-use borrow.Author.Rules.{rules}
 use Rattle.coerce.specs.Answer.{int_is}
 use Rattle.coerce.specs.Numbers.{int_of}
 use Rattle.value.specs.Rows.{Row}

@@ -1,7 +1,6 @@
 -- `leaves::leaf_str_of` meets its contract. Assumes nothing.
 use mathlib.Core.Path.{ap, ◌∙◌}
 use lib.ListN.{length}
-use borrow.Author.Rules.{rules}
 use Rattle.coerce.specs.Answer.{nothing}
 use Rattle.coerce.specs.Numbers.{str_of}
 use Rattle.value.specs.Rows.{Row}

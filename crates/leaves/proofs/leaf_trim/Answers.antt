@@ -1,7 +1,6 @@
 -- `leaves::leaf_trim` meets its contract. Assumes nothing.
 use mathlib.Core.Path.{ap, ◌∙◌}
 use lib.ListN.{length}
-use borrow.Author.Rules.{rules}
 use Rattle.leaves.specs.Codes
 use Rattle.leaves.proofs.leaf_trim.Goals as goal
 

@@ -1,6 +1,5 @@
 -- `leaves::leaf_u64_of` meets its contract. Assumes nothing.
 use mathlib.Core.Path.{ap, ◌∙◌}
-use borrow.Author.Rules.{rules}
 use borrow.Author.Tests.{le-leb, lt-leb}
 use Rattle.leaves.specs.Codes
 use Rattle.leaves.proofs.leaf_u64_of.Goals as goal

@@ -1,6 +1,5 @@
 -- `leaves::leaf_vec_of` meets its contract. Assumes nothing.
 use mathlib.Core.Path.{ap, ◌∙◌}
-use borrow.Author.Rules.{rules}
 use Rattle.coerce.specs.Numbers.{vec_of}
 use Rattle.value.specs.Rows.{Row}
 use Rattle.leaves.specs.Codes

@@ -1,6 +1,5 @@
 -- `leaves::of_int` meets its contract. Assumes nothing.
 use mathlib.Core.Path.{sym, ap}
-use borrow.Author.Rules.{rules}
 use Rattle.leaves.specs.Codes
 use Rattle.leaves.proofs.of_int.Goals as goal
 

@@ -1,6 +1,5 @@
 -- `leaves::of_vector` meets its contract. Assumes nothing.
 use mathlib.Core.Path.{sym, ap}
-use borrow.Author.Rules.{rules}
 use Rattle.coerce.specs.Answer.{vec_is}
 use Rattle.coerce.specs.declared.vector.Vector.{Vector}
 use Rattle.leaves.specs.Codes

@@ -1,6 +1,5 @@
 -- `leaves::put_front` meets its contract. Assumes nothing.
 use mathlib.Core.Path.{refl}
-use borrow.Author.Rules.{rules}
 use borrow.Author.Tests.{le-leb, lt-leb}
 use lib.ListN.{length}
 use Rattle.leaves.proofs.put_front.Goals as goal

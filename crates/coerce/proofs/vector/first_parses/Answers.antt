@@ -1,11 +1,6 @@
 -- `coerce::vector::first_parses` meets its contract. Assumes nothing.
-use mathlib.Core.Path.{◌≡◌, refl, ◌∙◌}
-use Prim.Native.Nat.{◌-◌, ◌≤◌}
+use mathlib.Core.Path.{refl, ◌∙◌}
 use native.Mathlib.Omega.{arith}
-use borrow.Author.Rules.{rules}
-use lib.ListN.{length, drop}
-use Rattle.coerce.specs.Answer
-use Rattle.texts.specs.Text.{parts}
 use Rattle.coerce.proofs.Vectors
 use Rattle.coerce.proofs.vector.first_parses.Goals as goal
 

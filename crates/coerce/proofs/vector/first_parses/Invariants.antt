@@ -1,12 +1,9 @@
 -- `coerce::vector::first_parses` meets its contract. Assumes nothing.
-use mathlib.Core.Path.{◌≡◌, refl, ◌∙◌}
+use mathlib.Core.Path.{◌≡◌}
 use Prim.Native.Nat.{◌-◌, ◌≤◌}
-use native.Mathlib.Omega.{arith}
-use borrow.Author.Rules.{rules}
 use lib.ListN.{length, drop}
 use Rattle.coerce.specs.Answer
 use Rattle.texts.specs.Text.{parts}
-use Rattle.coerce.proofs.Vectors
 use Rattle.coerce.proofs.vector.first_parses.Given as goal
 
 abbrev pub invariant-loop-i : goal.invariant-loop-i

@@ -1,5 +1,4 @@
 -- `coerce::vector::item` meets its contract. Assumes nothing.
-use borrow.Author.Rules.{rules}
 use Rattle.coerce.proofs.Vectors
 use Rattle.coerce.proofs.vector.item.Goals as goal
 

@@ -1,5 +1,4 @@
 -- `coerce::vector::vec_array` meets its contract. Assumes nothing.
-use borrow.Author.Rules.{rules}
 use Rattle.coerce.proofs.Vectors
 use Rattle.coerce.proofs.vector.vec_array.Goals as goal
 

@@ -1,5 +1,4 @@
 -- `coerce::whole::float_of_int` meets its contract. Assumes nothing.
-use borrow.Author.Rules.{rules}
 use Rattle.coerce.proofs.Wholes
 use Rattle.coerce.proofs.whole.float_of_int.Goals as goal
 

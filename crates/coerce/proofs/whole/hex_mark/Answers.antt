@@ -1,5 +1,4 @@
 -- `coerce::whole::hex_mark` meets its contract. Assumes nothing.
-use borrow.Author.Rules.{rules}
 use Rattle.coerce.proofs.whole.hex_mark.Goals as goal
 
 pub returns : goal.returns

@@ -1,6 +1,5 @@
 -- `coerce::whole::int_of` meets its contract. Assumes nothing.
 use mathlib.Core.Path.{refl}
-use borrow.Author.Rules.{rules}
 use Rattle.coerce.proofs.Wholes
 use Rattle.coerce.proofs.whole.int_of.Goals as goal
 

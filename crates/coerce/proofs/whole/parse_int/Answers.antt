@@ -1,5 +1,4 @@
 -- `coerce::whole::parse_int` meets its contract. Assumes nothing.
-use borrow.Author.Rules.{rules}
 use Rattle.coerce.proofs.Wholes
 use Rattle.coerce.proofs.whole.parse_int.Goals as goal
 

@@ -1,5 +1,4 @@
 -- `coerce::whole::whole_in` meets its contract. Assumes nothing.
-use borrow.Author.Rules.{rules}
 use Rattle.coerce.proofs.Wholes
 use Rattle.coerce.proofs.whole.whole_in.Goals as goal
 

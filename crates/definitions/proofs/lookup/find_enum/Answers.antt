@@ -1,6 +1,5 @@
 -- `definitions::lookup::find_enum` meets its contract. Assumes nothing.
 use Rattle.definitions.proofs.Finds.{winning_enum}
-use borrow.Author.Rules.{rules}
 use Rattle.definitions.proofs.lookup.find_enum.Goals as goal
 
 pub returns : goal.returns

@@ -1,6 +1,5 @@
 -- `definitions::lookup::find_structure` meets its contract. Assumes nothing.
 use Rattle.definitions.proofs.Finds.{winning_struct}
-use borrow.Author.Rules.{rules}
 use Rattle.definitions.proofs.lookup.find_structure.Goals as goal
 
 pub returns : goal.returns

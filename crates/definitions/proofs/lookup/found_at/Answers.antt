@@ -1,5 +1,4 @@
 -- `definitions::lookup::found_at` meets its contract. Assumes nothing.
-use borrow.Author.Rules.{rules}
 use Rattle.definitions.proofs.lookup.found_at.Goals as goal
 
 pub returns-then-hit : goal.returns-then-hit

@@ -1,12 +1,8 @@
 -- `definitions::lookup::last_in` meets its contract. Assumes nothing.
 use mathlib.Core.List.{[]}
-use borrow.Author.Rules.{rules}
-use mathlib.Core.Path.{◌≡◌, ap}
-use native.Mathlib.Omega.{arith}
+use mathlib.Core.Path.{◌≡◌}
 use Prim.Native.Nat.{◌+◌, ◌-◌, ◌*◌, ◌≤◌}
-use Rattle.numbers.specs.Result.{map_option}
 use Rattle.schema.specs.Index.{index_count, places_from}
-use Rattle.definitions.proofs.Seek.{none_behind, last_miss, last_hit, last_none}
 use Rattle.definitions.proofs.lookup.last_in.Given as goal
 
 abbrev pub invariant-loop-i : goal.invariant-loop-i

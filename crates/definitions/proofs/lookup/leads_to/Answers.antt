@@ -1,7 +1,5 @@
 -- `definitions::lookup::leads_to` meets its contract. Assumes nothing.
-use native.Mathlib.Omega.{arith}
 use borrow.Author.Tests.{eq-eqb, ne_eqb}
-use borrow.Author.Rules.{rules}
 use Rattle.definitions.proofs.lookup.leads_to.Goals as goal
 
 pub returns-then-u32_at-name : goal.returns-then-u32_at-name

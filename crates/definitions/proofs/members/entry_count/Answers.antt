@@ -1,7 +1,6 @@
 -- `definitions::members::entry_count` meets its contract. Assumes nothing.
 use native.Mathlib.Omega.{arith}
 use Rattle.definitions.proofs.Fields.{total_none}
-use borrow.Author.Rules.{rules}
 use Rattle.definitions.proofs.members.entry_count.Goals as goal
 
 pub returns-then-file-place : goal.returns-then-file-place

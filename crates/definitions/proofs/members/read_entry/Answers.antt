@@ -1,6 +1,5 @@
 -- `definitions::members::read_entry` meets its contract. Assumes nothing.
 use Rattle.definitions.proofs.Fields.{entry_is_law, entry_none}
-use borrow.Author.Rules.{rules}
 use Rattle.definitions.proofs.members.read_entry.Goals as goal
 
 pub returns-then-file-place : goal.returns-then-file-place

@@ -1,6 +1,5 @@
 -- `definitions::members::read_head` meets its contract. Assumes nothing.
 use Rattle.definitions.proofs.Fields.{head_none, head_is}
-use borrow.Author.Rules.{rules}
 use Rattle.definitions.proofs.members.read_head.Goals as goal
 
 pub returns-then-file-place : goal.returns-then-file-place

@@ -1,6 +1,5 @@
 -- `definitions::members::read_member` meets its contract. Assumes nothing.
 use Rattle.definitions.proofs.Fields.{member_none, member_is_law}
-use borrow.Author.Rules.{rules}
 use Rattle.definitions.proofs.members.read_member.Goals as goal
 
 pub returns-then-file-place : goal.returns-then-file-place

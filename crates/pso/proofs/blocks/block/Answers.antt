@@ -3,7 +3,6 @@ use mathlib.Core.Path.{◌∙◌}
 use Rattle.schema.specs.Sections.{sections}
 use Rattle.pso.specs.Blocks.{blocks_of}
 use Rattle.pso.proofs.Numbered.{from_none, from_one_law, numbered_is}
-use borrow.Author.Rules.{rules}
 use Rattle.pso.proofs.blocks.block.Goals as goal
 
 pub returns-then-number-eq0 : goal.returns-then-number-eq0

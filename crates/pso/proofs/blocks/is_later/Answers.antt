@@ -1,6 +1,5 @@
 -- `pso::blocks::is_later` meets its contract. Assumes nothing.
 use Rattle.pso.proofs.Maps.{later}
-use borrow.Author.Rules.{rules}
 use Rattle.pso.proofs.blocks.is_later.Goals as goal
 
 pub returns : goal.returns

@@ -1,10 +1,7 @@
 -- `pso::blocks::nth_row` meets its contract. Assumes nothing.
 use Prim.Native.Nat.{◌-◌, ◌≤◌}
-use native.Mathlib.Omega.{arith}
 use lib.ListN.{length}
-use borrow.Author.Rules.{rules}
-use Rattle.schema.proofs.Walk.{onward, ended, broke}
-use Rattle.pso.proofs.Numbered.{Going, first, block_end, block_broken, block_found, block_turn}
+use Rattle.pso.proofs.Numbered.{Going}
 use Rattle.pso.proofs.blocks.nth_row.Given as goal
 
 abbrev pub invariant-loop-place : goal.invariant-loop-place

@@ -1,7 +1,6 @@
 -- `pso::blocks::read_rows` meets its contract. Assumes nothing.
 use mathlib.Core.Path.{sym, ◌∙◌}
 use Rattle.pso.proofs.Maps.{rows_short, later_short, later_past, later_rows, here_past, here_rows}
-use borrow.Author.Rules.{rules}
 use Rattle.pso.proofs.blocks.read_rows.Goals as goal
 
 pub returns-then-p-lt16 : goal.returns-then-p-lt16

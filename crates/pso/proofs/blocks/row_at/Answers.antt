@@ -1,6 +1,5 @@
 -- `pso::blocks::row_at` meets its contract. Assumes nothing.
 use Rattle.pso.proofs.Numbered.{row_is_law}
-use borrow.Author.Rules.{rules}
 use Rattle.pso.proofs.blocks.row_at.Goals as goal
 
 pub returns : goal.returns

@@ -1,9 +1,7 @@
 -- `pso::blocks::span_of` meets its contract. Assumes nothing.
 use Rattle.schema.proofs.Walk.{part_is}
 use native.Mathlib.Omega.{arith}
-use borrow.Author.Tests.{not-true, not-false}
 use Rattle.pso.proofs.Numbered.{span_other, span_in, span_short, span_rows}
-use borrow.Author.Rules.{rules}
 use Rattle.pso.proofs.blocks.span_of.Goals as goal
 
 pub returns-then-not-is_name : goal.returns-then-not-is_name
@@ -12,7 +10,6 @@ returns-then-not-is_name c =
 
 pub overflow_add-result : goal.overflow_add-result
 overflow_add-result c =
-
     let i = span_in c.args.file.now c.args.place c.args.len c.requires c.is_name.result (c.is_name.ensures.number (omega arith)) c.if-not-is_name.false _
     (part_is c.args.file.now c.args.place c.args.len) c.read_rows-r.result c.read_rows-r.ensures c.in-Table.root c.in-Table.start c.in-Table.count c.in-Table.is in
     omega (arith, i, c.requires)
@@ -24,6 +21,5 @@ returns-in-Short c =
 
 pub returns-in-Table : goal.returns-in-Table
 returns-in-Table c =
-
     span_rows c.args.file.now c.args.place c.args.len c.requires c.is_name.result (c.is_name.ensures.number (omega arith)) c.if-not-is_name.false _
     (part_is c.args.file.now c.args.place c.args.len) c.read_rows-r.result c.read_rows-r.ensures c.in-Table.root c.in-Table.start c.in-Table.count c.in-Table.is

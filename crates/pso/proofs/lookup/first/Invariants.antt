@@ -1,10 +1,7 @@
 -- `pso::lookup::first` meets its contract. Assumes nothing.
 use Prim.Native.Nat.{◌-◌, ◌≤◌}
-use native.Mathlib.Omega.{arith}
 use lib.ListN.{length}
-use borrow.Author.Rules.{rules}
-use Rattle.schema.proofs.Walk.{onward, ended, broke}
-use Rattle.pso.proofs.Leading.{Going, begin, at_end_law, at_broken, found, goes_on}
+use Rattle.pso.proofs.Leading.{Going}
 use Rattle.pso.proofs.lookup.first.Given as goal
 
 abbrev pub invariant-loop-place : goal.invariant-loop-place

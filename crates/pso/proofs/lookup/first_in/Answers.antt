@@ -1,10 +1,9 @@
 -- `pso::lookup::first_in` meets its contract. Assumes nothing.
 use mathlib.Core.Path.{ap}
 use native.Mathlib.Omega.{arith}
-use Prim.Native.Nat.{◌+◌, ◌-◌, ◌≤◌}
-use borrow.Author.Rules.{rules}
+use Prim.Native.Nat.{◌+◌}
 use Rattle.numbers.specs.Result.{map_option}
-use Rattle.pso.proofs.Leading.{Left, first_start, first_hit, first_miss, first_none}
+use Rattle.pso.proofs.Leading.{first_start, first_hit, first_miss, first_none}
 use Rattle.pso.proofs.lookup.first_in.Goals as goal
 
 pub loop-i-init : goal.loop-i-init

@@ -1,10 +1,6 @@
 -- `pso::lookup::first_in` meets its contract. Assumes nothing.
-use mathlib.Core.Path.{ap}
-use native.Mathlib.Omega.{arith}
-use Prim.Native.Nat.{◌+◌, ◌-◌, ◌≤◌}
-use borrow.Author.Rules.{rules}
-use Rattle.numbers.specs.Result.{map_option}
-use Rattle.pso.proofs.Leading.{Left, first_start, first_hit, first_miss, first_none}
+use Prim.Native.Nat.{◌-◌, ◌≤◌}
+use Rattle.pso.proofs.Leading.{Left}
 use Rattle.pso.proofs.lookup.first_in.Given as goal
 
 abbrev pub invariant-loop-i : goal.invariant-loop-i

@@ -5,7 +5,6 @@ use Prim.Native.Nat.{◌+◌}
 use native.Mathlib.Omega.{arith}
 use Rattle.numbers.specs.Result.{map_option}
 use Rattle.schema.specs.Index.{first_of}
-use borrow.Author.Tests.{not-true, not-false}
 use Rattle.definitions.proofs.Seek.{other_section, psch_section}
 use borrow.Author.Rules.{rules}
 use Rattle.pso.proofs.lookup.first_of.Goals as goal

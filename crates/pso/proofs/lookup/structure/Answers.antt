@@ -2,11 +2,10 @@
 use mathlib.Core.Path.{refl}
 use Rattle.definitions.specs.declared.lookup.Found.TheVariants.{At, Nothing}
 use Rattle.pso.proofs.Leading.{struct_answer}
-use borrow.Author.Rules.{rules}
 use Rattle.pso.proofs.lookup.structure.Goals as goal
 
 -- the two facts of one answer
-both : {P Q : Type 0} → P × Q → record {value : P; name_value : Q}
+both : {P Q : Type 0} → P × Q → record { value : P; name_value : Q }
 both w = record { value = w.0; name_value = w.1 }
 
 pub returns-in-Nothing : goal.returns-in-Nothing

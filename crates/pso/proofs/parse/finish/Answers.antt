@@ -1,6 +1,5 @@
 -- `pso::parse::finish` meets its contract. Assumes nothing.
 use Rattle.pso.proofs.Sight.{finish_is_law}
-use borrow.Author.Rules.{rules}
 use Rattle.pso.proofs.parse.finish.Goals as goal
 
 pub returns-in-Number : goal.returns-in-Number

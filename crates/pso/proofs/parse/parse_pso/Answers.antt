@@ -1,12 +1,8 @@
 -- `pso::parse::parse_pso` meets its contract. Assumes nothing.
-use Prim.Native.Nat.{◌-◌, ◌≤◌}
 use native.Mathlib.Omega.{arith}
-use lib.ListN.{length}
-use borrow.Author.Rules.{rules}
-use borrow.Author.Tests.{not-true, not-false}
 use Rattle.schema.proofs.Walk.{onward, ended, broke}
-use Rattle.pso.proofs.Sight.{Going, first, no_name, bad_name, parse_end, parse_broken, parse_refused, parse_turn}
-use Rattle.pso.proofs.Place.{Placed, placed_first, placed_turn, refusal_is, answer_is}
+use Rattle.pso.proofs.Sight.{first, no_name, bad_name, parse_end, parse_broken, parse_refused, parse_turn}
+use Rattle.pso.proofs.Place.{placed_first, placed_turn, refusal_is, answer_is}
 use Rattle.pso.proofs.parse.parse_pso.Goals as goal
 
 pub returns-then-file-lt4 : goal.returns-then-file-lt4
@@ -26,21 +22,27 @@ returns-in-End c =
     let F = c.args.file.now in
     let l = c.loop-body in
     let t = ended F l.c.at c.step-q.result c.step-q.ensures c.in-End.is in
-    record { file_value = (answer_is F l.c.at l.s l.invariant.3 t c.finish.result c.finish.ensures
-    (parse_end F c.if-file-lt4.false c.is_name.result (c.is_name.ensures.number (omega arith)) c.if-not-is_name.false l.c.at l.s l.invariant.2
-    t c.finish.result c.finish.ensures)).0; value = (answer_is F l.c.at l.s l.invariant.3 t c.finish.result c.finish.ensures
-    (parse_end F c.if-file-lt4.false c.is_name.result (c.is_name.ensures.number (omega arith)) c.if-not-is_name.false l.c.at l.s l.invariant.2
-    t c.finish.result c.finish.ensures)).1 }
+    record {
+      file_value = (answer_is F l.c.at l.s l.invariant.3 t c.finish.result c.finish.ensures
+          (parse_end F c.if-file-lt4.false c.is_name.result (c.is_name.ensures.number (omega arith)) c.if-not-is_name.false l.c.at l.s l.invariant.2
+          t c.finish.result c.finish.ensures)).0;
+      value = (answer_is F l.c.at l.s l.invariant.3 t c.finish.result c.finish.ensures
+          (parse_end F c.if-file-lt4.false c.is_name.result (c.is_name.ensures.number (omega arith)) c.if-not-is_name.false l.c.at l.s l.invariant.2
+          t c.finish.result c.finish.ensures)).1;
+    }
 
 pub returns-in-Broken : goal.returns-in-Broken
 returns-in-Broken c =
     let F = c.args.file.now in
     let l = c.loop-body in
-    record { file_value = (refusal_is F 4
-    (parse_broken F c.if-file-lt4.false c.is_name.result (c.is_name.ensures.number (omega arith)) c.if-not-is_name.false l.c.at l.s l.invariant.2
-    (broke F l.c.at c.step-q.result c.step-q.ensures c.in-Broken.is))).0; value = (refusal_is F 4
-    (parse_broken F c.if-file-lt4.false c.is_name.result (c.is_name.ensures.number (omega arith)) c.if-not-is_name.false l.c.at l.s l.invariant.2
-    (broke F l.c.at c.step-q.result c.step-q.ensures c.in-Broken.is))).1 }
+    record {
+      file_value = (refusal_is F 4
+          (parse_broken F c.if-file-lt4.false c.is_name.result (c.is_name.ensures.number (omega arith)) c.if-not-is_name.false l.c.at l.s l.invariant.2
+          (broke F l.c.at c.step-q.result c.step-q.ensures c.in-Broken.is))).0;
+      value = (refusal_is F 4
+          (parse_broken F c.if-file-lt4.false c.is_name.result (c.is_name.ensures.number (omega arith)) c.if-not-is_name.false l.c.at l.s l.invariant.2
+          (broke F l.c.at c.step-q.result c.step-q.ensures c.in-Broken.is))).1;
+    }
 
 pub see-w-requires : goal.see-w-requires
 see-w-requires c =
@@ -54,8 +56,8 @@ returns-in-Refused c =
     let l = c.loop-body in
     let o = onward F l.c.at c.step-q.result c.step-q.ensures c.in-Section.place c.in-Section.len c.in-Section.next c.in-Section.is in
     let r = refusal_is F c.in-Refused.n
-      (parse_refused F c.if-file-lt4.false c.is_name.result (c.is_name.ensures.number (omega arith)) c.if-not-is_name.false l.c.at l.s l.invariant.2
-      c.in-Section.place c.in-Section.len c.in-Section.next.at c.see-w.result o.left c.see-w.ensures c.in-Refused.n c.in-Refused.is) in
+    (parse_refused F c.if-file-lt4.false c.is_name.result (c.is_name.ensures.number (omega arith)) c.if-not-is_name.false l.c.at l.s l.invariant.2
+    c.in-Section.place c.in-Section.len c.in-Section.next.at c.see-w.result o.left c.see-w.ensures c.in-Refused.n c.in-Refused.is) in
     record { file_value = r.0; value = r.1 }
 
 pub loop-body-smaller : goal.loop-body-smaller
@@ -68,8 +70,7 @@ pub loop-body-preserved : goal.loop-body-preserved
 loop-body-preserved c =
     let F = c.args.file.now in
     let l = c.loop-body in
-    let o = onward F l.c.at c.step-q.result c.step-q.ensures c.in-Section.place c.in-Section.len c.in-Section.next c.in-Section.is in
-    (
+    let o = onward F l.c.at c.step-q.result c.step-q.ensures c.in-Section.place c.in-Section.len c.in-Section.next c.in-Section.is in (
       omega (arith, o.inside, o.on),
       omega (arith, o.on, o.here, l.invariant.1, c.see-w.ensures.few c.in-Next.t c.in-Next.is),
       parse_turn F l.c.at c.in-Section.place c.in-Section.len c.in-Section.next.at l.s c.see-w.result l.invariant.2 o.left c.see-w.ensures c.in-Next.t c.in-Next.is,

@@ -4,7 +4,6 @@ use mathlib.Core.Path.{ap, ◌∙◌}
 use native.Mathlib.Omega.{arith}
 use lib.ListN.{length}
 use Rattle.pso.proofs.Sight.{see_data, see_map, see_defs, see_other, map_fits}
-use borrow.Author.Rules.{rules}
 use Rattle.pso.proofs.parse.see.Goals as goal
 
 pub returns-then-is_name : goal.returns-then-is_name
@@ -15,7 +14,6 @@ returns-then-is_name c =
 pub with_map-requires : goal.with_map-requires
 with_map-requires c =
     λ root start count e.
-
     let a = c.args in
     let k = part_is a.file.now a.place a.len in
     let f = map_fits a.s a.place a.len (length a.file.now) _ c.read_rows.result (ap length k ∙ part_length a.file.now a.place a.len c.requires.0) c.requires.1 c.requires.0 c.read_rows.ensures root start count e in

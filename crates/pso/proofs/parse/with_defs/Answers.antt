@@ -1,5 +1,4 @@
 -- `pso::parse::with_defs` meets its contract. Assumes nothing.
-use borrow.Author.Rules.{rules}
 use Rattle.pso.proofs.parse.with_defs.Goals as goal
 
 pub returns-in-Refused : goal.returns-in-Refused

@@ -1,6 +1,5 @@
 -- `pso::parse::with_map` meets its contract. Assumes nothing.
 use native.Mathlib.Omega.{arith}
-use borrow.Author.Rules.{rules}
 use Rattle.pso.proofs.parse.with_map.Goals as goal
 
 pub overflow_add-result : goal.overflow_add-result
