@@ -6,7 +6,7 @@ use Prim.Native.Nat.{ℕ, suc, ◌+◌, ◌-◌, ◌*◌, ◌^◌, ◌≤◌, �
 use native.Mathlib.Omega.{arith}
 use lib.ListN.{length, length-append}
 use Rattle.numbers.specs.Words.{Bytes, words, over}
-use Rattle.numbers.proofs.Bytes.{next, length_words}
+use Rattle.numbers.proofs.Bytes.{length_words}
 use Rattle.schema.specs.Defs.{Schema}
 use Rattle.layout.specs.State.{Item, Spot, State, done, stop, spot, pointer_at, file, pointer_to, add_item_c, settle, on_core, add_item}
 use Rattle.area.specs.declared.Round.{Round}

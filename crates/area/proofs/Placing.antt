@@ -15,7 +15,6 @@ use Rattle.layout.specs.State.{State, done, stop, spot, pointer_to, add_item}
 use Rattle.area.specs.declared.Round.{Round}
 use Rattle.area.specs.declared.Progress.{Progress}
 use Rattle.area.specs.declared.Spot.{Spot}
-use Rattle.area.specs.Segments.{flat}
 use Rattle.area.specs.Kept.{kept, rows_bytes}
 use Rattle.area.specs.Area.{rows_of, encode, stack_at, Rep, with_item, headed}
 use Rattle.area.specs.Rows.{blocks_in}

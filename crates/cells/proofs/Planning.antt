@@ -27,7 +27,6 @@ use Rattle.area.specs.Area.{env_of}
 use Rattle.cells.specs.declared.defs.Def.{Def}
 use Rattle.cells.specs.declared.Cell.{Cell}
 use Rattle.cells.specs.declared.Cell.TheVariants as C
-use Rattle.cells.specs.declared.kinds.Kind.{Kind}
 use Rattle.cells.specs.declared.plan.Plan.{Plan}
 use Rattle.cells.specs.declared.plan.Plan.TheVariants as P
 use Rattle.cells.specs.Names.{def_of, member_of, entries_from}

@@ -11,7 +11,7 @@ use Rattle.numbers.specs.Words.{Bytes, over, zeros}
 use Rattle.schema.specs.Defs.{Schema}
 use Rattle.definitions.specs.declared.members.Member as coded
 use Rattle.layout.specs.State.{State, M, done, ret, with_remark}
-use Rattle.layout.specs.Members.{need, leaves, says}
+use Rattle.layout.specs.Members.{need, leaves}
 use Rattle.area.specs.declared.Round.{Round}
 use Rattle.area.specs.declared.Progress.{Progress}
 use Rattle.area.specs.Area.{stack_at, Rep, with_top}

@@ -1,6 +1,5 @@
 -- `cells::put_bits` meets its contract. Assumes nothing.
 use mathlib.Core.Path.{refl}
-use borrow.Author.Rules.{rules}
 use Rattle.cells.proofs.put_bits.Goals as goal
 
 pub returns-in-Fits : goal.returns-in-Fits

@@ -2,7 +2,6 @@
 use native.Mathlib.Omega.{arith}
 use Rattle.cells.specs.declared.Cell.TheVariants as C
 use Rattle.cells.proofs.Celling.{as_cell, put_integer, put_single, put_numbers, put_hash, put_enum, put_flags, put_fixed}
-use borrow.Author.Rules.{rules}
 use Rattle.cells.proofs.put_cell.Goals as goal
 
 pub put_int-requires : goal.put_int-requires

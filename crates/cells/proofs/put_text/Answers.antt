@@ -3,7 +3,6 @@ use mathlib.Core.Path.{ap}
 use mathlib.Core.Bool.{not}
 use Rattle.coerce.specs.Numbers.{str_of}
 use Rattle.cells.proofs.Celling.{text_room, no_text, text_stored, text_empty}
-use borrow.Author.Rules.{rules}
 use Rattle.cells.proofs.put_text.Goals as goal
 
 pub returns-then-not-has_str : goal.returns-then-not-has_str

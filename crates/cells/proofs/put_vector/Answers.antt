@@ -1,6 +1,5 @@
 -- `cells::put_vector` meets its contract. Assumes nothing.
 use mathlib.Core.Path.{refl}
-use borrow.Author.Rules.{rules}
 use Rattle.cells.proofs.put_vector.Goals as goal
 
 pub returns-in-Fits : goal.returns-in-Fits

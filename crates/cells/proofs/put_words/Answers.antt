@@ -1,7 +1,6 @@
 -- `cells::put_words` meets its contract. Assumes nothing.
 use native.Mathlib.Omega.{arith}
 use Rattle.cells.proofs.Celling.{two_left, all_four, first_three, first_two}
-use borrow.Author.Rules.{rules}
 use Rattle.cells.proofs.put_words.Goals as goal
 
 pub returns-then-n-eq4 : goal.returns-then-n-eq4

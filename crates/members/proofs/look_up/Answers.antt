@@ -1,6 +1,5 @@
 -- `members::look_up` meets its contract. Assumes nothing.
 use Rattle.members.proofs.Looking.{looked_missing, looked_at_law, up_missing, up_at}
-use borrow.Author.Rules.{rules}
 use Rattle.members.proofs.look_up.Goals as goal
 
 pub returns-in-Nothing : goal.returns-in-Nothing

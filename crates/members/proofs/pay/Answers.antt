@@ -1,6 +1,5 @@
 -- `members::pay` meets its contract. Assumes nothing.
 use Rattle.members.proofs.Looking.{pay_refused, pay_done}
-use borrow.Author.Rules.{rules}
 use Rattle.members.proofs.pay.Goals as goal
 
 pub returns-then-round-p : goal.returns-then-round-p

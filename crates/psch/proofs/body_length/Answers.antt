@@ -1,6 +1,5 @@
 -- `psch::body_length` meets its contract. Assumes nothing.
 use Rattle.psch.proofs.Bodies.{body_measured, none_measured}
-use borrow.Author.Rules.{rules}
 use Rattle.psch.proofs.body_length.Goals as goal
 
 pub returns-in-At : goal.returns-in-At

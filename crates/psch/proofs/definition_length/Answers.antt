@@ -1,7 +1,6 @@
 -- `psch::definition_length` meets its contract. Assumes nothing.
 use native.Mathlib.Omega.{arith}
 use Rattle.psch.proofs.Bodies.{enum_measured, struct_measured}
-use borrow.Author.Rules.{rules}
 use Rattle.psch.proofs.definition_length.Goals as goal
 
 pub returns-then-enums : goal.returns-then-enums

@@ -1,8 +1,6 @@
 -- `psch::definitions_length` meets its contract. Assumes nothing.
 use Prim.Native.Nat.{◌-◌}
-use native.Mathlib.Omega.{arith}
-use borrow.Author.Rules.{rules}
-use Rattle.psch.proofs.Listing.{Summing, sum_begin, sum_turn, sum_long, sum_last}
+use Rattle.psch.proofs.Listing.{Summing}
 use Rattle.psch.proofs.definitions_length.Given as goal
 
 abbrev pub invariant-loop-k : goal.invariant-loop-k

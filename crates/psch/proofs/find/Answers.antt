@@ -1,5 +1,4 @@
 -- `psch::find` meets its contract. Assumes nothing.
-use borrow.Author.Rules.{rules}
 use Rattle.psch.proofs.find.Goals as goal
 
 pub returns-then-enums : goal.returns-then-enums

@@ -2,7 +2,6 @@
 use native.Mathlib.Omega.{arith}
 use Rattle.numbers.proofs.Bytes.{octets}
 use Rattle.psch.proofs.Bodies.{enum_written, struct_least, struct_written}
-use borrow.Author.Rules.{rules}
 use Rattle.psch.proofs.put_definition.Goals as goal
 
 pub returns-then-enums : goal.returns-then-enums

@@ -3,7 +3,6 @@ use native.Mathlib.Omega.{arith}
 use lib.ListN.{length}
 use mathlib.Core.Path.{ap}
 use Rattle.psch.proofs.Bodies.{body_at, stored_lies, stored_found, record_put}
-use borrow.Author.Rules.{rules}
 use Rattle.psch.proofs.put_record.Goals as goal
 
 pub put_definition-requires : goal.put_definition-requires

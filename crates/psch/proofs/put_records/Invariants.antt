@@ -1,8 +1,6 @@
 -- `psch::put_records` meets its contract. Assumes nothing.
 use Prim.Native.Nat.{◌-◌}
-use native.Mathlib.Omega.{arith}
-use borrow.Author.Rules.{rules}
-use Rattle.psch.proofs.Listing.{Putting, put_begin, put_turn, put_again, put_last}
+use Rattle.psch.proofs.Listing.{Putting}
 use Rattle.psch.proofs.put_records.Given as goal
 
 abbrev pub invariant-loop-k : goal.invariant-loop-k

@@ -1,7 +1,6 @@
 -- `runs::enum_run` meets its contract. Assumes nothing.
 use native.Mathlib.Omega.{arith}
 use lib.ListN.{length}
-use borrow.Author.Rules.{rules}
 use Rattle.numbers.specs.Result.{is_some}
 use Rattle.value.specs.Rows.{rows_from}
 use Rattle.schema.specs.Defs.{winning}

@@ -2,7 +2,6 @@
 use mathlib.Core.Path.{refl, sym, ap, ◌∙◌}
 use native.Mathlib.Omega.{arith}
 use lib.ListN.{length}
-use borrow.Author.Rules.{rules}
 use Rattle.value.specs.Rows.{rows_from}
 use Rattle.layout.specs.Kinds
 use Rattle.cells.specs.Names.{kind_is}

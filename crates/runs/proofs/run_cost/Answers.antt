@@ -1,5 +1,4 @@
 -- `runs::run_cost` meets its contract. Assumes nothing.
-use borrow.Author.Rules.{rules}
 use Rattle.runs.proofs.Loops.{product_small}
 use Rattle.runs.proofs.run_cost.Goals as goal
 

@@ -1,7 +1,6 @@
 -- `runs::stop_run` meets its contract. Assumes nothing.
 use mathlib.Core.Path.{ap}
 use lib.ListN.{length}
-use borrow.Author.Rules.{rules}
 use Rattle.numbers.specs.Words.{Bytes}
 use Rattle.area.specs.declared.Progress.{Progress}
 use Rattle.runs.specs.declared.Ran.TheVariants.{Dropped}

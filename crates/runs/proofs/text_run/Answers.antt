@@ -1,6 +1,5 @@
 -- `runs::text_run` meets its contract. Assumes nothing.
 use lib.ListN.{length}
-use borrow.Author.Rules.{rules}
 use Rattle.value.specs.Rows.{rows_from}
 use Rattle.runs.proofs.Elements.{texts_zero, texts_fixed, texts_pointed, texts_hashed, texts_strange}
 use native.Mathlib.Omega.{arith}

@@ -1,6 +1,5 @@
 -- `area::items::filed` meets its contract. Assumes nothing.
 use borrow.Author.Tests.{lt-ltb, le-ltb}
-use borrow.Author.Rules.{rules}
 use Rattle.area.proofs.items.filed.Goals as goal
 
 pub returns-then-before-p : goal.returns-then-before-p

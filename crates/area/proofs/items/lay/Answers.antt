@@ -1,7 +1,6 @@
 -- `area::items::lay` meets its contract. Assumes nothing.
 use native.Mathlib.Omega.{arith}
 use lib.ListN.{length}
-use borrow.Author.Rules.{rules}
 use Rattle.area.proofs.Placing.{lay_refused, lay_done}
 use Rattle.area.proofs.items.lay.Goals as goal
 

@@ -1,7 +1,6 @@
 -- `area::items::lay_text` meets its contract. Assumes nothing.
 use native.Mathlib.Omega.{arith}
 use lib.ListN.{length}
-use borrow.Author.Rules.{rules}
 use Rattle.area.proofs.Placing.{text_refused, text_done}
 use Rattle.area.proofs.items.lay_text.Goals as goal
 

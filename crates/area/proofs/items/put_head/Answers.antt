@@ -1,5 +1,4 @@
 -- `area::items::put_head` meets its contract. Assumes nothing.
-use borrow.Author.Rules.{rules}
 use Rattle.area.proofs.items.put_head.Goals as goal
 
 pub returns : goal.returns

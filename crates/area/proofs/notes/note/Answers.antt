@@ -2,7 +2,6 @@
 use mathlib.Core.Path.{sym, ◌∙◌}
 use lib.ListN.{length}
 use borrow.Author.Tests.{lt-ltb, le-ltb}
-use borrow.Author.Rules.{rules}
 use Rattle.area.proofs.Noting.{note_late, note_known, note_new, note_full}
 use Rattle.area.proofs.notes.note.Goals as goal
 

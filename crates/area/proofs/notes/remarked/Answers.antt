@@ -1,10 +1,8 @@
 -- `area::notes::remarked` meets its contract. Assumes nothing.
-use mathlib.Core.Path.{◌≡◌, sym, ap, ◌∙◌}
-use Prim.Native.Nat.{◌+◌, ◌-◌, ◌*◌, ◌≤◌}
+use mathlib.Core.Path.{sym, ap, ◌∙◌}
 use native.Mathlib.Nat.{sub-zero}
 use borrow.Author.Rules.{rules}
 use Rattle.layout.specs.State
-use Rattle.area.specs.Rows.{rows_in}
 use Rattle.area.proofs.Remarks.{rows_next, rows_last}
 use Rattle.area.proofs.notes.remarked.Goals as goal
 

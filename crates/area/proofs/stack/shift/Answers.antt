@@ -1,5 +1,4 @@
 -- `area::stack::shift` meets its contract. Assumes nothing.
-use borrow.Author.Rules.{rules}
 use Rattle.area.proofs.stack.shift.Goals as goal
 
 pub returns : goal.returns

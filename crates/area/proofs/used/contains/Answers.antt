@@ -1,14 +1,12 @@
 -- `area::used::contains` meets its contract. Assumes nothing.
 use mathlib.Core.Path.{◌≡◌, sym, ◌∙◌}
 use mathlib.Core.Bool.{true, false}
-use Prim.Native.Nat.{◌+◌, ◌-◌, ◌*◌, ◌≤◌}
+use Prim.Native.Nat.{◌+◌, ◌*◌}
 use native.Mathlib.Nat.{sub-zero, add-zero}
 use lib.Dec.{eqb}
 use borrow.Author.Tests.{eq-eqb, ne_eqb}
 use borrow.Author.Rules.{rules}
 use Rattle.numbers.specs.Words.{read_at}
-use Rattle.layout.specs.State
-use Rattle.area.specs.Rows.{names_in}
 use Rattle.area.proofs.Names.{names_next, names_last}
 use Rattle.area.proofs.used.contains.Goals as goal
 

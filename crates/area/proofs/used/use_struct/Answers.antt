@@ -3,7 +3,6 @@ use mathlib.Core.Path.{ap}
 use Prim.Native.Nat.{ℕ}
 use native.Mathlib.Omega.{arith}
 use lib.ListN.{length}
-use borrow.Author.Rules.{rules}
 use Rattle.numbers.specs.Words.{Bytes}
 use Rattle.area.specs.Area.{with_used}
 use Rattle.area.proofs.Using.{use_struct_law}

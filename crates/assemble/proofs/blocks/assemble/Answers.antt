@@ -6,7 +6,6 @@ use lib.ListN.{length}
 use Rattle.layout.specs.Assemble.{data_of}
 use Rattle.numbers.specs.Words.{over}
 use Rattle.assemble.proofs.Heads.{psin_right, table_inside, table_ready, table_rows, size_is, both_whole}
-use borrow.Author.Rules.{rules}
 use Rattle.assemble.proofs.blocks.assemble.Goals as goal
 
 pub fill_table-size-requires : goal.fill_table-size-requires

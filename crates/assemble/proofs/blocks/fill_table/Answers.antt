@@ -1,14 +1,11 @@
 -- `assemble::blocks::fill_table` meets its contract. Assumes nothing.
-use Prim.Native.Nat.{◌+◌, ◌-◌, ◌*◌, ◌≤◌, ◌<◌}
-use mathlib.Core.Path.{◌≡◌, refl, sym, ◌∙◌, subst}
-use mathlib.Core.List.{List}
+use Prim.Native.Nat.{◌+◌, ◌*◌, ◌≤◌, ◌<◌}
+use mathlib.Core.Path.{refl, sym, ◌∙◌, subst}
 use native.Mathlib.Omega.{arith}
 use lib.ListN.{length}
 use Rattle.numbers.specs.Words.{bytes_of, Stands}
-use Rattle.layout.specs.State.{Block}
 use Rattle.area.specs.Area.{rows_of}
-use Rattle.assemble.specs.Map.{Rows}
-use Rattle.assemble.proofs.Maps.{Going, begin, turn, again, last, sum, table_part, table_all, table_parts, rows_stay}
+use Rattle.assemble.proofs.Maps.{begin, turn, again, last, sum, table_part, table_all, table_parts, rows_stay}
 use Rattle.assemble.proofs.blocks.fill_table.Goals as goal
 
 pub loop-k-init : goal.loop-k-init
@@ -22,8 +19,11 @@ table_row-place-requires c =
     let l = c.loop-k in
     let k = c.loop-k.k in
     let h : k < a.count = c.loop-k-test.true in
-    let bs = c.requires.some_rows.blocks in record { row = turn table_part table_all 4 table_parts bs a.work.now a.table a.count k l.place (a.rows + 8 * k) (a.table + 4 * k)
-          l.work l.work (l.invariant.2 bs c.requires.some_rows.held) h; to_in_bounds = let f : a.table + 4 * k + 4 ≤ length l.work = omega (arith, c.requires, h, l.invariant.1) in f }
+    let bs = c.requires.some_rows.blocks in record {
+      row = turn table_part table_all 4 table_parts bs a.work.now a.table a.count k l.place (a.rows + 8 * k) (a.table + 4 * k)
+          l.work l.work (l.invariant.2 bs c.requires.some_rows.held) h;
+      to_in_bounds = let f : a.table + 4 * k + 4 ≤ length l.work = omega (arith, c.requires, h, l.invariant.1) in f;
+    }
 
 pub loop-k-preserved : goal.loop-k-preserved
 loop-k-preserved c =

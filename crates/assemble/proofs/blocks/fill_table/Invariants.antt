@@ -1,14 +1,11 @@
 -- `assemble::blocks::fill_table` meets its contract. Assumes nothing.
-use Prim.Native.Nat.{◌+◌, ◌-◌, ◌*◌, ◌≤◌, ◌<◌}
-use mathlib.Core.Path.{◌≡◌, refl, sym, ◌∙◌, subst}
+use Prim.Native.Nat.{◌+◌, ◌-◌, ◌*◌, ◌≤◌}
+use mathlib.Core.Path.{◌≡◌}
 use mathlib.Core.List.{List}
-use native.Mathlib.Omega.{arith}
 use lib.ListN.{length}
-use Rattle.numbers.specs.Words.{bytes_of, Stands}
 use Rattle.layout.specs.State.{Block}
-use Rattle.area.specs.Area.{rows_of}
 use Rattle.assemble.specs.Map.{Rows}
-use Rattle.assemble.proofs.Maps.{Going, begin, turn, again, last, sum, table_part, table_all, table_parts, rows_stay}
+use Rattle.assemble.proofs.Maps.{Going, table_all}
 use Rattle.assemble.proofs.blocks.fill_table.Given as goal
 
 abbrev pub invariant-loop-k : goal.invariant-loop-k

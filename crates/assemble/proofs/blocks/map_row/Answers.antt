@@ -1,6 +1,5 @@
 -- `assemble::blocks::map_row` meets its contract. Assumes nothing.
 use Rattle.assemble.proofs.Maps.{mapped}
-use borrow.Author.Rules.{rules}
 use Rattle.assemble.proofs.blocks.map_row.Goals as goal
 
 pub returns : goal.returns

@@ -1,14 +1,12 @@
 -- `assemble::blocks::map_rows` meets its contract. Assumes nothing.
-use Prim.Native.Nat.{◌+◌, ◌-◌, ◌*◌, ◌≤◌, ◌<◌}
-use mathlib.Core.Path.{◌≡◌, refl, ◌∙◌}
-use mathlib.Core.List.{List, [], ◌∷◌}
+use Prim.Native.Nat.{◌+◌, ◌*◌, ◌≤◌, ◌<◌}
+use mathlib.Core.Path.{refl, ◌∙◌}
+use mathlib.Core.List.{[], ◌∷◌}
 use native.Mathlib.Omega.{arith}
 use lib.ListN.{length}
 use Rattle.numbers.specs.Words.{words, read_at}
-use Rattle.layout.specs.State.{Block}
 use Rattle.layout.specs.Assemble.{block_rows}
-use Rattle.assemble.specs.Map.{Rows}
-use Rattle.assemble.proofs.Maps.{Going, begin, turn, again, last, map_part, map_parts, map_part_law}
+use Rattle.assemble.proofs.Maps.{begin, turn, again, last, map_part, map_parts, map_part_law}
 use Rattle.assemble.proofs.blocks.map_rows.Goals as goal
 
 pub loop-k-init : goal.loop-k-init
@@ -31,8 +29,11 @@ map_row-place-requires c =
     let l = c.loop-k in
     let k = c.loop-k.k in
     let h : k < a.count = c.loop-k-test.true in
-    let bs = c.requires.some_rows.blocks in record { row = turn map_part block_rows 16 map_parts bs a.out.now a.at a.count k l.place (a.rows + 8 * k) (a.at + 16 * k)
-          a.work.now l.out (l.invariant.2 bs c.requires.some_rows.held) h; to_in_bounds = let f : a.at + 16 * k + 16 ≤ length l.out = omega (arith, c.requires, h, l.invariant.1) in f }
+    let bs = c.requires.some_rows.blocks in record {
+      row = turn map_part block_rows 16 map_parts bs a.out.now a.at a.count k l.place (a.rows + 8 * k) (a.at + 16 * k)
+          a.work.now l.out (l.invariant.2 bs c.requires.some_rows.held) h;
+      to_in_bounds = let f : a.at + 16 * k + 16 ≤ length l.out = omega (arith, c.requires, h, l.invariant.1) in f;
+    }
 
 pub loop-k-preserved : goal.loop-k-preserved
 loop-k-preserved c =

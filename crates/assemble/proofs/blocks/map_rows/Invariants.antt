@@ -1,14 +1,12 @@
 -- `assemble::blocks::map_rows` meets its contract. Assumes nothing.
-use Prim.Native.Nat.{◌+◌, ◌-◌, ◌*◌, ◌≤◌, ◌<◌}
-use mathlib.Core.Path.{◌≡◌, refl, ◌∙◌}
-use mathlib.Core.List.{List, [], ◌∷◌}
-use native.Mathlib.Omega.{arith}
+use Prim.Native.Nat.{◌+◌, ◌-◌, ◌*◌, ◌≤◌}
+use mathlib.Core.Path.{◌≡◌}
+use mathlib.Core.List.{List}
 use lib.ListN.{length}
-use Rattle.numbers.specs.Words.{words, read_at}
 use Rattle.layout.specs.State.{Block}
 use Rattle.layout.specs.Assemble.{block_rows}
 use Rattle.assemble.specs.Map.{Rows}
-use Rattle.assemble.proofs.Maps.{Going, begin, turn, again, last, map_part, map_parts, map_part_law}
+use Rattle.assemble.proofs.Maps.{Going}
 use Rattle.assemble.proofs.blocks.map_rows.Given as goal
 
 abbrev pub invariant-loop-k : goal.invariant-loop-k

@@ -1,6 +1,5 @@
 -- `assemble::blocks::write_map` meets its contract. Assumes nothing.
 use Rattle.assemble.proofs.Heads.{pmap_whole}
-use borrow.Author.Rules.{rules}
 use Rattle.assemble.proofs.blocks.write_map.Goals as goal
 
 pub returns : goal.returns

@@ -1,7 +1,6 @@
 -- `assemble::data::place_item` meets its contract. Assumes nothing.
 use lib.ListN.{length}
 use Rattle.assemble.proofs.Turns.{inside, moved}
-use borrow.Author.Rules.{rules}
 use Rattle.assemble.proofs.data.place_item.Goals as goal
 
 pub copy_part-requires : goal.copy_part-requires

@@ -1,11 +1,8 @@
 -- `assemble::data::scatter` meets its contract. Assumes nothing.
-use Prim.Native.Nat.{◌-◌}
-use mathlib.Core.Path.{◌≡◌, refl, sym, ◌∙◌, subst}
+use mathlib.Core.Path.{refl, sym, ◌∙◌, subst}
 use native.Mathlib.Omega.{arith}
-use lib.ListN.{length}
-use Rattle.layout.specs.State.{Core}
-use Rattle.assemble.specs.Scatter.{Ready, Turn}
-use Rattle.assemble.proofs.Turns.{Going, begin, turn, again, last}
+use Rattle.assemble.specs.Scatter.{Turn}
+use Rattle.assemble.proofs.Turns.{begin, turn, again, last}
 use Rattle.assemble.proofs.data.scatter.Goals as goal
 
 pub loop-pos-init : goal.loop-pos-init

@@ -1,11 +1,10 @@
 -- `assemble::data::scatter` meets its contract. Assumes nothing.
 use Prim.Native.Nat.{◌-◌}
-use mathlib.Core.Path.{◌≡◌, refl, sym, ◌∙◌, subst}
-use native.Mathlib.Omega.{arith}
+use mathlib.Core.Path.{◌≡◌}
 use lib.ListN.{length}
 use Rattle.layout.specs.State.{Core}
-use Rattle.assemble.specs.Scatter.{Ready, Turn}
-use Rattle.assemble.proofs.Turns.{Going, begin, turn, again, last}
+use Rattle.assemble.specs.Scatter.{Ready}
+use Rattle.assemble.proofs.Turns.{Going}
 use Rattle.assemble.proofs.data.scatter.Given as goal
 
 abbrev pub invariant-loop-pos : goal.invariant-loop-pos

@@ -3,7 +3,6 @@ use mathlib.Core.Path.{sym, subst, ◌∙◌}
 use native.Mathlib.Omega.{arith}
 use Rattle.assemble.specs.Scatter.{Ready, Held}
 use Rattle.assemble.proofs.Heads.{psin_whole}
-use borrow.Author.Rules.{rules}
 use Rattle.assemble.proofs.data.write_data.Goals as goal
 
 pub scatter-requires : goal.scatter-requires

@@ -1,10 +1,7 @@
 -- `assemble::file::data_length` meets its contract. Assumes nothing.
-use mathlib.Core.Path.{◌≡◌}
-use Prim.Native.Nat.{◌+◌, ◌-◌, ◌*◌, ◌≤◌}
 use native.Mathlib.Omega.{arith}
 use borrow.Author.Rules.{rules}
-use Rattle.assemble.specs.Packed.{lengths_in}
-use Rattle.assemble.proofs.Adding.{left_of, left_first, left_on, left_done}
+use Rattle.assemble.proofs.Adding.{left_first, left_on, left_done}
 use Rattle.assemble.proofs.file.data_length.Goals as goal
 
 pub loop-k-init : goal.loop-k-init

@@ -7,7 +7,6 @@ use lib.ListN.{length, take, drop, length-drop}
 use lib.Seq.{length-take-le}
 use Rattle.area.specs.Posts.{Safe}
 use Rattle.assemble.proofs.Filing.{whole, stored, rest_fits, rest_small, file_put}
-use borrow.Author.Rules.{rules}
 use Rattle.assemble.proofs.file.put_file.Goals as goal
 
 pub assemble-end-requires : goal.assemble-end-requires
@@ -55,7 +54,6 @@ put_schema-requires c =
 pub returns : goal.returns
 returns c =
     λ S s σ f.
-
     let a = c.args in
     let m = c.assemble-end in
     let h = c.requires.safe in

@@ -1,7 +1,6 @@
 -- `assemble::file::wipe` meets its contract. Assumes nothing.
 use lib.ListN.{length}
 use Rattle.assemble.proofs.Wiping.{parts_wiped, wiped}
-use borrow.Author.Rules.{rules}
 use Rattle.assemble.proofs.file.wipe.Goals as goal
 
 pub returns : goal.returns

@@ -1,5 +1,4 @@
 -- `assemble::file::wipe_names` meets its contract. Assumes nothing.
-use borrow.Author.Rules.{rules}
 use Rattle.assemble.proofs.file.wipe_names.Goals as goal
 
 pub returns : goal.returns

@@ -1,6 +1,5 @@
 -- `cells::defs::reference_at` meets its contract. Assumes nothing.
 use Rattle.cells.proofs.References.{no_reference, a_reference}
-use borrow.Author.Rules.{rules}
 use Rattle.cells.proofs.defs.reference_at.Goals as goal
 
 pub returns-then-n-i : goal.returns-then-n-i

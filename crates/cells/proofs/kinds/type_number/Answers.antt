@@ -2,7 +2,6 @@
 use native.Mathlib.Omega.{arith}
 use Rattle.cells.specs.declared.kinds.Kind.TheVariants as K
 use Rattle.cells.proofs.Kinding.{vector_few, number_of, number_zero}
-use borrow.Author.Rules.{rules}
 use Rattle.cells.proofs.kinds.type_number.Goals as goal
 
 pub returns-then-ty-eq0 : goal.returns-then-ty-eq0

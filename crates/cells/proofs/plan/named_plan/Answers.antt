@@ -1,5 +1,4 @@
 -- `cells::plan::named_plan` meets its contract. Assumes nothing.
-use borrow.Author.Rules.{rules}
 use Rattle.cells.proofs.Choosing.{place_inside}
 use Rattle.cells.proofs.Planning.{named_none, named_some}
 use Rattle.cells.proofs.plan.named_plan.Goals as goal

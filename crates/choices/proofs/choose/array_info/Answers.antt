@@ -1,6 +1,5 @@
 -- `choices::choose::array_info` meets its contract. Assumes nothing.
 use Rattle.choices.proofs.Choosing.{info_low, info_less, info_none}
-use borrow.Author.Rules.{rules}
 use Rattle.choices.proofs.choose.array_info.Goals as goal
 
 pub returns-then-low-n : goal.returns-then-low-n

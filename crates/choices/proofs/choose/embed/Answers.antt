@@ -4,7 +4,6 @@ use mathlib.Core.Bool.{not}
 use mathlib.Core.Path.{refl}
 use lib.ListN.{length}
 use Rattle.choices.proofs.Embedding.{embeds_wide, embeds_fits, fell_safe, shift_room}
-use borrow.Author.Rules.{rules}
 use Rattle.choices.proofs.choose.embed.Goals as goal
 
 pub say-requires : goal.say-requires

@@ -1,6 +1,5 @@
 -- `choices::choose::is_array_value` meets its contract. Assumes nothing.
 use Rattle.choices.proofs.Choosing.{array_value}
-use borrow.Author.Rules.{rules}
 use Rattle.choices.proofs.choose.is_array_value.Goals as goal
 
 pub returns : goal.returns

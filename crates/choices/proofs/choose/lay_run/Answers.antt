@@ -2,7 +2,6 @@
 use lib.ListN.{length}
 use native.Mathlib.Omega.{arith}
 use Rattle.choices.proofs.Lodging.{top_within, lodged_refused, lodged_done}
-use borrow.Author.Rules.{rules}
 use Rattle.choices.proofs.choose.lay_run.Goals as goal
 
 pub put_counted-requires : goal.put_counted-requires

@@ -1,6 +1,5 @@
 -- `choices::choose::own_type` meets its contract. Assumes nothing.
 use Rattle.choices.proofs.Choosing.{own_first, own_second, own_here, own_reference}
-use borrow.Author.Rules.{rules}
 use Rattle.choices.proofs.choose.own_type.Goals as goal
 
 pub returns-in-At : goal.returns-in-At

@@ -3,7 +3,6 @@ use Rattle.choices.proofs.NinthRemark.{pair_needs_none, struct_needs_none, null_
 use Rattle.value.specs.Rows.{Row, row}
 use lib.ListN.{length}
 use mathlib.Core.Path.{refl, ap}
-use borrow.Author.Rules.{rules}
 use Rattle.choices.proofs.elements.element_note.Goals as goal
 
 pub returns-then-pairs : goal.returns-then-pairs

@@ -1,7 +1,6 @@
 -- `choices::elements::element_row` meets its contract. Assumes nothing.
 use native.Mathlib.Omega.{arith}
 use mathlib.Core.Path.{refl}
-use borrow.Author.Rules.{rules}
 use Rattle.choices.proofs.elements.element_row.Goals as goal
 
 pub returns-then-pairs : goal.returns-then-pairs

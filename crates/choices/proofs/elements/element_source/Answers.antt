@@ -1,6 +1,5 @@
 -- `choices::elements::element_source` meets its contract. Assumes nothing.
 use mathlib.Core.Path.{refl}
-use borrow.Author.Rules.{rules}
 use Rattle.choices.proofs.elements.element_source.Goals as goal
 
 pub returns-then-pairs : goal.returns-then-pairs

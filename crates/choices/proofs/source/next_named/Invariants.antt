@@ -1,8 +1,6 @@
 -- `choices::source::next_named` meets its contract. Assumes nothing.
-use borrow.Author.Rules.{rules}
-use Rattle.cells.specs.Names.{def_of, member_of}
-use Rattle.choices.proofs.Naming.{Seeking, seek_begin, seek_on, seek_found, seek_none}
-use Rattle.choices.proofs.Nths.{count_members, nth_read}
+use Rattle.cells.specs.Names.{def_of}
+use Rattle.choices.proofs.Naming.{Seeking}
 use Prim.Native.Nat.{◌-◌}
 use Rattle.choices.proofs.source.next_named.Given as goal
 

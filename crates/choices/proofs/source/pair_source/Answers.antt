@@ -3,7 +3,6 @@ use mathlib.Core.Path.{sym}
 use Rattle.cells.specs.Names.{def_of, member_of}
 use Rattle.choices.proofs.Naming.{pair_none, pair_one, pair_two}
 use Rattle.choices.proofs.Nths.{count_members, nth_read}
-use borrow.Author.Rules.{rules}
 use Rattle.choices.proofs.source.pair_source.Goals as goal
 
 pub returns-then-n-i : goal.returns-then-n-i

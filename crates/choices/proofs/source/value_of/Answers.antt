@@ -1,6 +1,5 @@
 -- `choices::source::value_of` meets its contract. Assumes nothing.
 use Rattle.choices.proofs.Naming.{one_found, one_missing, first_found, second_found, neither_found, none_found}
-use borrow.Author.Rules.{rules}
 use Rattle.choices.proofs.source.value_of.Goals as goal
 
 pub returns-then-a-name : goal.returns-then-a-name

@@ -1,7 +1,6 @@
 -- `members::member::used` meets its contract. Assumes nothing.
 use mathlib.Core.Path.{refl, sym, ◌∙◌}
 use mathlib.Core.Bool.{false≢true}
-use borrow.Author.Rules.{rules}
 use Rattle.members.proofs.member.used.Goals as goal
 
 pub returns-then-known : goal.returns-then-known

@@ -3,11 +3,10 @@ use mathlib.Core.Path.{refl, sym, ◌∙◌}
 use Prim.Native.Nat.{◌+◌}
 use native.Mathlib.Omega.{arith}
 use lib.ListN.{length}
-use borrow.Author.Tests.{not-true, not-false, leb-true}
+use borrow.Author.Tests.{leb-true}
 use Rattle.value.specs.Answer.{value_is}
 use Rattle.cells.specs.Cells.{cell_bytes, cell_size}
 use Rattle.members.proofs.Filling.{cell_long, cell_stored, cell_wrong, cell_refused, part_room}
-use borrow.Author.Rules.{rules}
 use Rattle.members.proofs.member.write_cell.Goals as goal
 
 pub returns-then-not-fits : goal.returns-then-not-fits

@@ -1,7 +1,6 @@
 -- `members::member::write_plain` meets its contract. Assumes nothing.
 use mathlib.Core.Path.{subst}
 use lib.ListN.{length}
-use borrow.Author.Rules.{rules}
 use Rattle.value.specs.Answer.{value_is}
 use Rattle.layout.specs.Kinds
 use Rattle.cells.specs.declared.plan.Plan.TheVariants as P

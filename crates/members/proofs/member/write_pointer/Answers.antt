@@ -3,10 +3,9 @@ use mathlib.Core.Path.{sym, ◌∙◌}
 use Prim.Native.Nat.{◌+◌}
 use native.Mathlib.Omega.{arith}
 use lib.ListN.{length}
-use borrow.Author.Tests.{not-true, not-false, leb-true}
+use borrow.Author.Tests.{leb-true}
 use Rattle.value.specs.Answer.{value_is}
 use Rattle.members.proofs.PointerMembers.{text_short, pointer_long, pointer_wrong, pointer_slot}
-use borrow.Author.Rules.{rules}
 use Rattle.members.proofs.member.write_pointer.Goals as goal
 
 pub returns-then-not-fits : goal.returns-then-not-fits

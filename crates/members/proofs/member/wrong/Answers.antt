@@ -7,7 +7,6 @@ use Rattle.cells.specs.Names.{def_of, member_of}
 use Rattle.members.specs.declared.Wrote.TheVariants.{Done}
 use Rattle.members.specs.Posts.{any_schema}
 use Rattle.members.proofs.Filling.{wrong_missing, wrong_value}
-use borrow.Author.Rules.{rules}
 use Rattle.members.proofs.member.wrong.Goals as goal
 
 pub returns-in-Missing : goal.returns-in-Missing
@@ -17,8 +16,11 @@ returns-in-Missing c =
 
 pub returns-in-At : goal.returns-in-At
 returns-in-At c =
-    let a = c.args in record { fills = λ F.
+    let a = c.args in record {
+      fills = λ F.
           rw c.in-At.is
           (wrong_value a.round (length a.work.now) a.p a.work.now any_schema a.d.size F a.d a.m c.in-At.r c.say.result c.say.new.work c.requires.0 c.requires.1
-          (rw (← c.type_number-n.ensures) c.say.ensures)); work_after = rw (c.in-At.is, ← c.type_number-n.ensures)
-          (ap (λ (x : Progress × Bytes). (Done x.0, x.1)) c.say.ensures.exact) }
+          (rw (← c.type_number-n.ensures) c.say.ensures));
+      work_after = rw (c.in-At.is, ← c.type_number-n.ensures)
+          (ap (λ (x : Progress × Bytes). (Done x.0, x.1)) c.say.ensures.exact);
+    }

@@ -1,6 +1,5 @@
 -- `members::slots::put_counted` meets its contract. Assumes nothing.
 use Rattle.members.proofs.Slotting.{counted}
-use borrow.Author.Rules.{rules}
 use Rattle.members.proofs.slots.put_counted.Goals as goal
 
 pub returns : goal.returns

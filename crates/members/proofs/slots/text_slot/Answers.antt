@@ -6,7 +6,6 @@ use lib.ListN.{length}
 use borrow.Author.Tests.{eq-eqb, ne_eqb, leb-true}
 use Rattle.area.specs.Posts.{laid_is}
 use Rattle.members.proofs.Slotting.{paid_yes, paid_no, slot_room, counted_room, safe_paid, text_none, text_poor, text_full, text_pointer, text_counted}
-use borrow.Author.Rules.{rules}
 use Rattle.members.proofs.slots.text_slot.Goals as goal
 
 pub returns-then-n-eq0 : goal.returns-then-n-eq0

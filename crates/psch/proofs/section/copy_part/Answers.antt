@@ -2,7 +2,6 @@
 use mathlib.Core.Path.{◌∙◌}
 use native.Mathlib.Omega.{arith}
 use lib.ListN.{drop, length-take}
-use borrow.Author.Rules.{rules}
 use Rattle.psch.proofs.section.copy_part.Goals as goal
 
 pub copy-requires : goal.copy-requires

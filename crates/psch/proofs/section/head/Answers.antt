@@ -1,6 +1,5 @@
 -- `psch::section::head` meets its contract. Assumes nothing.
 use Rattle.psch.proofs.Sections.{name_first}
-use borrow.Author.Rules.{rules}
 use Rattle.psch.proofs.section.head.Goals as goal
 
 pub returns : goal.returns
