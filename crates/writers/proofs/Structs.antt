@@ -17,7 +17,7 @@ use Rattle.schema.specs.Defs.{Schema, winning}
 use Rattle.definitions.specs.declared.members.Member as coded
 use Rattle.layout.specs.State.{State, with_charge}
 use Rattle.layout.specs.Kinds.{kind_of}
-use Rattle.layout.specs.Write.{ARRAYINFO, member, members}
+use Rattle.layout.specs.Write.{ARRAYINFO, member}
 use Rattle.area.specs.declared.Round.{Round}
 use Rattle.area.specs.declared.Progress.{Progress}
 use Rattle.area.specs.Area.{Rep, stack_at, with_paid, with_top, started_in, env_of}

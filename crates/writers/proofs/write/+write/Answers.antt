@@ -1,22 +1,22 @@
 -- The cycle of calls of the writers meets its contracts. Assumes nothing.
 use Rattle.choices.proofs.Nths.{nth_read}
-use Rattle.writers.proofs.Structs.{paid_safe, entered, writing_begin, writing_skip, writing_turn, writing_refused, writing_done, writing_open, writing_low, struct_deep, struct_dear, Writing}
+use Rattle.writers.proofs.Structs.{paid_safe, entered, writing_begin, writing_skip, writing_turn, writing_refused, writing_done, writing_open, writing_low, struct_deep, struct_dear}
 use native.Mathlib.Omega.{arith}
-use mathlib.Core.Path.{refl, sym, ◌∙◌, ◌≡◌, ap}
+use mathlib.Core.Path.{refl, sym, ◌∙◌, ap}
 use Rattle.choices.specs.Sources.{fields_is}
 use lib.ListN.{length}
-use Prim.Native.Nat.{◌+◌, ◌-◌, ℕ, ◌*◌, ◌≤◌}
-use borrow.Author.Rules.{rules}
+use Prim.Native.Nat.{◌+◌, ◌-◌}
 use Rattle.writers.proofs.Kindly.{member_as_structure, member_as_array, member_as_map, member_as_plain, structure_wrong, structure_inline, structure_pointed, run_plain, run_pointers, run_missing, run_structs}
+use mathlib.Core.Bool.{not}
 use borrow.Author.Tests.{leb-true}
 use Rattle.writers.proofs.Inlines.{pushed_within, inline_missing, inline_long, inline_refused, inline_done}
 use Rattle.writers.proofs.Fillings.{embedded_refused, embedded_dropped, embedded_room, embedded_kept, array_none, array_wrong, array_pointed, array_embedded, laid_wide, laid_empty, laid_refused, laid_dropped, laid_room, laid_kept}
 use Rattle.writers.proofs.Pointers.{pointed_long, pointed_absent, pointed_other, pointed_refused, pointed_nothing, pointed_at, point_missing, point_refused, point_unlaid, point_laid, can_lay}
 use Rattle.choices.proofs.Embedding.{fit_within}
 use Rattle.writers.proofs.Filled.{run_higher}
-use Rattle.runs.proofs.Loops.{paid_done, ready, run_cost, Ready}
-use Rattle.writers.proofs.PointerRuns.{Pointing, pointing_begin, pointing_safe, pointing_open, pointing_skip, pointing_nothing, pointing_at, pointing_stopped, pointing_kept, pointing_dear}
-use Rattle.writers.proofs.StructRuns.{paid_numbers, quiet, StructRunning, struct_begin, struct_numbers, struct_turn, struct_kept, struct_stopped, struct_dear}
+use Rattle.runs.proofs.Loops.{paid_done, ready, run_cost}
+use Rattle.writers.proofs.PointerRuns.{pointing_begin, pointing_safe, pointing_open, pointing_skip, pointing_nothing, pointing_at, pointing_stopped, pointing_kept, pointing_dear}
+use Rattle.writers.proofs.StructRuns.{paid_numbers, quiet, struct_begin, struct_numbers, struct_turn, struct_kept, struct_stopped, struct_dear as run_dear}
 use Rattle.value.specs.Rows.{Row, row}
 use Rattle.writers.proofs.Pairing.{map_subtype, map_wide, map_wrong, map_pairs, map_empty, mark_room, pairs_asked, pairs_missing, pairs_refused, pairs_dropped, pairs_room, pairs_kept}
 use Rattle.writers.proofs.write.+write.Goals as goal
@@ -131,7 +131,7 @@ write_member-returns-in-16 t c =
 
 pub write_member-returns-in_default : goal.write_member-returns-in_default
 write_member-returns-in_default t c =
-    member_as_plain _ _ _ _ c.args.sheet.now c.args.schema.now c.args.left c.args.d c.args.m c.args.v _ _ c.in_default.rest.0.0.1 c.in_default.rest.0.1 c.in_default.rest.1 c.write_plain.ensures
+    member_as_plain _ _ _ _ c.args.sheet.now c.args.schema.now c.args.left c.args.d c.args.m c.args.v _ _ (omega arith) (omega arith) (omega arith) c.write_plain.ensures
 
 -- `write_structure`.
 pub write_structure-wrong-requires : goal.write_structure-wrong-requires
@@ -267,11 +267,11 @@ point_to-returns-in-At-lay t c =
 -- `write_array`.
 pub write_array-returns-then-not-is_array_value : goal.write_array-returns-then-not-is_array_value
 write_array-returns-then-not-is_array_value t c =
-    array_wrong c.args.sheet.now c.args.schema.now c.args.round c.args.left c.args.p c.args.work.now c.args.d c.args.m c.requires.safe.0 c.requires.safe.1 c.requires.buffer c.args.v _ c.array_info.ensures _ c.in-At.is _ c.value_row-row.ensures _ c.is_array_value.ensures _ _ c.if-not-is_array_value.true c.wrong.ensures.fills
+    array_wrong c.args.sheet.now c.args.schema.now c.args.round c.args.left c.args.p c.args.work.now c.args.d c.args.m c.requires.safe.0 c.requires.safe.1 c.requires.buffer c.args.v _ c.array_info.ensures _ c.in-At.is _ c.value_row-row.ensures _ c.is_array_value.ensures _ _ (ap not c.if-not-is_array_value.true) c.wrong.ensures.fills
 
 pub write_array-returns-then-by_pointer : goal.write_array-returns-then-by_pointer
 write_array-returns-then-by_pointer t c =
-    array_pointed c.args.sheet.now c.args.schema.now c.args.round c.args.left c.args.p c.args.work.now c.args.d c.args.m c.requires.safe.0 c.requires.safe.1 c.requires.buffer c.args.v _ c.array_info.ensures _ c.in-At.is _ c.value_row-row.ensures _ c.is_array_value.ensures c.if-not-is_array_value.false _ c.item_count-n.ensures _ c.by_pointer.ensures _ _ c.if-by_pointer.true c.write_laid.ensures
+    array_pointed c.args.sheet.now c.args.schema.now c.args.round c.args.left c.args.p c.args.work.now c.args.d c.args.m c.requires.safe.0 c.requires.safe.1 c.requires.buffer c.args.v _ c.array_info.ensures _ c.in-At.is _ c.value_row-row.ensures _ c.is_array_value.ensures (ap not c.if-not-is_array_value.false) _ c.item_count-n.ensures _ c.by_pointer.ensures _ _ c.if-by_pointer.true c.write_laid.ensures
 
 pub write_array-returns-in-Missing : goal.write_array-returns-in-Missing
 write_array-returns-in-Missing t c =
@@ -279,42 +279,42 @@ write_array-returns-in-Missing t c =
 
 pub write_array-returns-else-by_pointer : goal.write_array-returns-else-by_pointer
 write_array-returns-else-by_pointer t c =
-    array_embedded c.args.sheet.now c.args.schema.now c.args.round c.args.left c.args.p c.args.work.now c.args.d c.args.m c.requires.safe.0 c.requires.safe.1 c.requires.buffer c.args.v _ c.array_info.ensures _ c.in-At.is _ c.value_row-row.ensures _ c.is_array_value.ensures c.if-not-is_array_value.false _ c.item_count-n.ensures _ c.by_pointer.ensures _ _ _ _ c.if-by_pointer.false c.high_half.ensures.0 c.min-k.ensures c.write_embedded.ensures
+    array_embedded c.args.sheet.now c.args.schema.now c.args.round c.args.left c.args.p c.args.work.now c.args.d c.args.m c.requires.safe.0 c.requires.safe.1 c.requires.buffer c.args.v _ c.array_info.ensures _ c.in-At.is _ c.value_row-row.ensures _ c.is_array_value.ensures (ap not c.if-not-is_array_value.false) _ c.item_count-n.ensures _ c.by_pointer.ensures _ _ _ _ c.if-by_pointer.false c.high_half.ensures.0 c.min-k.ensures c.write_embedded.ensures
 
 -- `write_laid`.
 pub write_laid-returns-then-not-fits : goal.write_laid-returns-then-not-fits
 write_laid-returns-then-not-fits t c =
-    laid_wide c.args.sheet.now c.args.schema.now c.args.round c.args.left c.args.p c.args.work.now c.args.d c.args.m c.requires.safe.0 c.requires.safe.1 c.requires.buffer c.args.x c.args.first c.args.n _ c.fits.ensures _ _ c.if-not-fits.true c.say.ensures
+    laid_wide c.args.sheet.now c.args.schema.now c.args.round c.args.left c.args.p c.args.work.now c.args.d c.args.m c.requires.safe.0 c.requires.safe.1 c.requires.buffer c.args.x c.args.first c.args.n _ c.fits.ensures _ _ (ap not c.if-not-fits.true) c.say.ensures
 
 pub write_laid-returns-then-n-eq0 : goal.write_laid-returns-then-n-eq0
 write_laid-returns-then-n-eq0 t c =
-    laid_empty c.args.sheet.now c.args.schema.now c.args.round c.args.left c.args.p c.args.work.now c.args.d c.args.m c.requires.safe.0 c.requires.safe.1 c.requires.buffer c.args.x c.args.first c.args.n _ c.fits.ensures c.if-not-fits.false c.if-n-eq0.true
+    laid_empty c.args.sheet.now c.args.schema.now c.args.round c.args.left c.args.p c.args.work.now c.args.d c.args.m c.requires.safe.0 c.requires.safe.1 c.requires.buffer c.args.x c.args.first c.args.n _ c.fits.ensures (ap not c.if-not-fits.false) c.if-n-eq0.true
 
 pub write_laid-overflow_sub-at : goal.write_laid-overflow_sub-at
 write_laid-overflow_sub-at t c = omega (arith, c.requires.buffer.low)
 
 pub write_laid-overflow_add-at : goal.write_laid-overflow_add-at
 write_laid-overflow_add-at t c =
-    omega (arith, c.requires.buffer.low, fit_within c.fits.result (c.args.m.offset + 16) c.args.d.size c.fits.ensures c.if-not-fits.false, c.well_formed)
+    omega (arith, c.requires.buffer.low, fit_within c.fits.result (c.args.m.offset + 16) c.args.d.size c.fits.ensures (ap not c.if-not-fits.false), c.well_formed)
 
 pub write_laid-overflow_sub-t : goal.write_laid-overflow_sub-t
 write_laid-overflow_sub-t t c = run_higher _ _ _ _ _ _ _ _ _ c.element_run.ensures _ _ c.in-Kept.is
 
 pub write_laid-lay_run-requires : goal.write_laid-lay_run-requires
 write_laid-lay_run-requires t c =
-    let both = laid_room c.args.sheet.now c.args.schema.now c.args.round c.args.left c.args.p c.args.work.now c.args.d c.args.m c.requires.safe.0 c.requires.safe.1 c.requires.buffer c.args.x c.args.first c.args.n _ c.fits.ensures c.if-not-fits.false c.if-n-eq0.false _ _ c.element_run.ensures _ _ _ c.in-Kept.is c.work-2-1.given in record { safe = both.0; len_bound = both.1 }
+    let both = laid_room c.args.sheet.now c.args.schema.now c.args.round c.args.left c.args.p c.args.work.now c.args.d c.args.m c.requires.safe.0 c.requires.safe.1 c.requires.buffer c.args.x c.args.first c.args.n _ c.fits.ensures (ap not c.if-not-fits.false) c.if-n-eq0.false _ _ c.element_run.ensures _ _ _ c.in-Kept.is c.work-2-1.given in record { safe = both.0; len_bound = both.1 }
 
 pub write_laid-returns-in-Refused : goal.write_laid-returns-in-Refused
 write_laid-returns-in-Refused t c =
-    laid_refused c.args.sheet.now c.args.schema.now c.args.round c.args.left c.args.p c.args.work.now c.args.d c.args.m c.requires.safe.0 c.requires.safe.1 c.requires.buffer c.args.x c.args.first c.args.n _ c.fits.ensures c.if-not-fits.false c.if-n-eq0.false _ _ c.element_run.ensures _ _ c.in-Refused.is
+    laid_refused c.args.sheet.now c.args.schema.now c.args.round c.args.left c.args.p c.args.work.now c.args.d c.args.m c.requires.safe.0 c.requires.safe.1 c.requires.buffer c.args.x c.args.first c.args.n _ c.fits.ensures (ap not c.if-not-fits.false) c.if-n-eq0.false _ _ c.element_run.ensures _ _ c.in-Refused.is
 
 pub write_laid-returns-in-Dropped : goal.write_laid-returns-in-Dropped
 write_laid-returns-in-Dropped t c =
-    laid_dropped c.args.sheet.now c.args.schema.now c.args.round c.args.left c.args.p c.args.work.now c.args.d c.args.m c.requires.safe.0 c.requires.safe.1 c.requires.buffer c.args.x c.args.first c.args.n _ c.fits.ensures c.if-not-fits.false c.if-n-eq0.false _ _ c.element_run.ensures _ c.in-Dropped.is
+    laid_dropped c.args.sheet.now c.args.schema.now c.args.round c.args.left c.args.p c.args.work.now c.args.d c.args.m c.requires.safe.0 c.requires.safe.1 c.requires.buffer c.args.x c.args.first c.args.n _ c.fits.ensures (ap not c.if-not-fits.false) c.if-n-eq0.false _ _ c.element_run.ensures _ c.in-Dropped.is
 
 pub write_laid-returns-in-Kept : goal.write_laid-returns-in-Kept
 write_laid-returns-in-Kept t c =
-    laid_kept c.args.sheet.now c.args.schema.now c.args.round c.args.left c.args.p c.args.work.now c.args.d c.args.m c.requires.safe.0 c.requires.safe.1 c.requires.buffer c.args.x c.args.first c.args.n _ c.fits.ensures c.if-not-fits.false c.if-n-eq0.false _ _ c.element_run.ensures _ _ _ _ c.in-Kept.is c.work-2-1.given c.lay_run.ensures
+    laid_kept c.args.sheet.now c.args.schema.now c.args.round c.args.left c.args.p c.args.work.now c.args.d c.args.m c.requires.safe.0 c.requires.safe.1 c.requires.buffer c.args.x c.args.first c.args.n _ c.fits.ensures (ap not c.if-not-fits.false) c.if-n-eq0.false _ _ c.element_run.ensures _ _ _ _ c.in-Kept.is c.work-2-1.given c.lay_run.ensures
 
 -- `element_run`.
 pub run::element_run-plain_element_run-requires : goal.run::element_run-plain_element_run-requires
@@ -504,7 +504,7 @@ run::struct_run-loop-k-preserved t c =
 pub run::struct_run-returns-in-Refused : goal.run::struct_run-returns-in-Refused
 run::struct_run-returns-in-Refused t c =
     let a = c.args in
-    struct_dear a.schema.now a.sheet.now a.round (length a.work.now) a.left a.d a.m a.i a.p a.work.now a.first a.n a.pairs c.run_cost.result c.pay.result c.in-Refused.k c.in-Refused.t
+    run_dear a.schema.now a.sheet.now a.round (length a.work.now) a.left a.d a.m a.i a.p a.work.now a.first a.n a.pairs c.run_cost.result c.pay.result c.in-Refused.k c.in-Refused.t
     c.requires.0 c.run_cost.ensures c.pay.ensures c.in-Refused.is
 
 pub run::struct_run-shape_of-work : goal.run::struct_run-shape_of-work
@@ -526,31 +526,31 @@ map::write_map-returns-then-m-ne1 t c =
 
 pub map::write_map-returns-then-not-fits : goal.map::write_map-returns-then-not-fits
 map::write_map-returns-then-not-fits t c =
-    map_wide c.args.sheet.now c.args.schema.now c.args.round c.args.left c.args.p c.args.work.now c.args.d c.args.m c.requires.safe.0 c.requires.safe.1 c.args.v c.if-m-ne1.false _ c.fits.ensures _ _ c.if-not-fits.true c.say-then-not-fits.ensures
+    map_wide c.args.sheet.now c.args.schema.now c.args.round c.args.left c.args.p c.args.work.now c.args.d c.args.m c.requires.safe.0 c.requires.safe.1 c.args.v c.if-m-ne1.false _ c.fits.ensures _ _ (ap not c.if-not-fits.true) c.say-then-not-fits.ensures
 
 pub map::write_map-returns-then-kind : goal.map::write_map-returns-then-kind
 map::write_map-returns-then-kind t c =
-    map_wrong c.args.sheet.now c.args.schema.now c.args.round c.args.left c.args.p c.args.work.now c.args.d c.args.m c.requires.safe.0 c.requires.safe.1 c.args.v c.if-m-ne1.false _ c.fits.ensures c.if-not-fits.false _ c.value_row-row.ensures _ _ c.if-kind.true c.wrong.ensures.fills
+    map_wrong c.args.sheet.now c.args.schema.now c.args.round c.args.left c.args.p c.args.work.now c.args.d c.args.m c.requires.safe.0 c.requires.safe.1 c.args.v c.if-m-ne1.false _ c.fits.ensures (ap not c.if-not-fits.false) _ c.value_row-row.ensures _ _ c.if-kind.true c.wrong.ensures.fills
 
 pub map::write_map-overflow_add-at : goal.map::write_map-overflow_add-at
 map::write_map-overflow_add-at t c =
-    omega (arith, c.requires.buffer.low, fit_within c.fits.result (c.args.m.offset + 24) c.args.d.size c.fits.ensures c.if-not-fits.false, c.well_formed)
+    omega (arith, c.requires.buffer.low, fit_within c.fits.result (c.args.m.offset + 24) c.args.d.size c.fits.ensures (ap not c.if-not-fits.false), c.well_formed)
 
 pub map::write_map-put_pointer-requires : goal.map::write_map-put_pointer-requires
 map::write_map-put_pointer-requires t c =
-    mark_room c.args.sheet.now c.args.schema.now c.args.round c.args.left c.args.p c.args.work.now c.args.d c.args.m c.requires.safe.0 c.requires.safe.1 c.args.v c.if-m-ne1.false _ c.fits.ensures _ c.if-not-fits.false c.requires.buffer.low refl
+    mark_room c.args.sheet.now c.args.schema.now c.args.round c.args.left c.args.p c.args.work.now c.args.d c.args.m c.requires.safe.0 c.requires.safe.1 c.args.v c.if-m-ne1.false _ c.fits.ensures _ (ap not c.if-not-fits.false) c.requires.buffer.low refl
 
 pub map::write_map-returns-then-n-eq0 : goal.map::write_map-returns-then-n-eq0
 map::write_map-returns-then-n-eq0 t c =
-    map_empty c.args.sheet.now c.args.schema.now c.args.round c.args.left c.args.p c.args.work.now c.args.d c.args.m c.requires.safe.0 c.requires.safe.1 c.args.v c.if-m-ne1.false _ c.fits.ensures c.if-not-fits.false _ c.value_row-row.ensures c.if-kind.false _ c.pair_count-n.ensures c.requires.buffer.low _ c.put_pointer.ensures c.work-2-1.given c.if-n-eq0.true
+    map_empty c.args.sheet.now c.args.schema.now c.args.round c.args.left c.args.p c.args.work.now c.args.d c.args.m c.requires.safe.0 c.requires.safe.1 c.args.v c.if-m-ne1.false _ c.fits.ensures (ap not c.if-not-fits.false) _ c.value_row-row.ensures c.if-kind.false _ c.pair_count-n.ensures c.requires.buffer.low _ c.put_pointer.ensures c.work-2-1.given c.if-n-eq0.true
 
 pub map::write_map-pairs-requires : goal.map::write_map-pairs-requires
 map::write_map-pairs-requires t c =
-    (omega (arith, c.decreases), pairs_asked c.args.sheet.now c.args.schema.now c.args.round c.args.left c.args.p c.args.work.now c.args.d c.args.m c.requires.safe.0 c.requires.safe.1 c.args.v c.if-m-ne1.false _ c.fits.ensures _ _ c.if-not-fits.false c.requires.buffer c.if-n-eq0.false c.work-2-1.given)
+    (omega (arith, c.decreases), pairs_asked c.args.sheet.now c.args.schema.now c.args.round c.args.left c.args.p c.args.work.now c.args.d c.args.m c.requires.safe.0 c.requires.safe.1 c.args.v c.if-m-ne1.false _ c.fits.ensures _ _ (ap not c.if-not-fits.false) c.requires.buffer c.if-n-eq0.false c.work-2-1.given)
 
 pub map::write_map-returns : goal.map::write_map-returns
 map::write_map-returns t c =
-    map_pairs c.args.sheet.now c.args.schema.now c.args.round c.args.left c.args.p c.args.work.now c.args.d c.args.m c.requires.safe.0 c.requires.safe.1 c.args.v c.if-m-ne1.false _ c.fits.ensures c.if-not-fits.false _ c.value_row-row.ensures c.if-kind.false _ c.pair_count-n.ensures c.requires.buffer.low _ c.put_pointer.ensures _ _ c.work-2-1.given c.pairs.ensures
+    map_pairs c.args.sheet.now c.args.schema.now c.args.round c.args.left c.args.p c.args.work.now c.args.d c.args.m c.requires.safe.0 c.requires.safe.1 c.args.v c.if-m-ne1.false _ c.fits.ensures (ap not c.if-not-fits.false) _ c.value_row-row.ensures c.if-kind.false _ c.pair_count-n.ensures c.requires.buffer.low _ c.put_pointer.ensures _ _ c.work-2-1.given c.pairs.ensures
 
 -- `pairs`.
 pub map::pairs-overflow_sub-at : goal.map::pairs-overflow_sub-at

@@ -1,24 +1,12 @@
 -- The cycle of calls of the writers meets its contracts. Assumes nothing.
-use Rattle.choices.proofs.Nths.{nth_read}
-use Rattle.writers.proofs.Structs.{paid_safe, entered, writing_begin, writing_skip, writing_turn, writing_refused, writing_done, writing_open, writing_low, struct_deep, struct_dear, Writing}
-use native.Mathlib.Omega.{arith}
-use mathlib.Core.Path.{refl, sym, ◌∙◌, ◌≡◌, ap}
+use Rattle.writers.proofs.Structs.{Writing}
+use mathlib.Core.Path.{◌≡◌}
 use Rattle.choices.specs.Sources.{fields_is}
 use lib.ListN.{length}
-use Prim.Native.Nat.{◌+◌, ◌-◌, ℕ, ◌*◌, ◌≤◌}
-use borrow.Author.Rules.{rules}
-use Rattle.writers.proofs.Kindly.{member_as_structure, member_as_array, member_as_map, member_as_plain, structure_wrong, structure_inline, structure_pointed, run_plain, run_pointers, run_missing, run_structs}
-use borrow.Author.Tests.{leb-true}
-use Rattle.writers.proofs.Inlines.{pushed_within, inline_missing, inline_long, inline_refused, inline_done}
-use Rattle.writers.proofs.Fillings.{embedded_refused, embedded_dropped, embedded_room, embedded_kept, array_none, array_wrong, array_pointed, array_embedded, laid_wide, laid_empty, laid_refused, laid_dropped, laid_room, laid_kept}
-use Rattle.writers.proofs.Pointers.{pointed_long, pointed_absent, pointed_other, pointed_refused, pointed_nothing, pointed_at, point_missing, point_refused, point_unlaid, point_laid, can_lay}
-use Rattle.choices.proofs.Embedding.{fit_within}
-use Rattle.writers.proofs.Filled.{run_higher}
-use Rattle.runs.proofs.Loops.{paid_done, ready, run_cost, Ready}
-use Rattle.writers.proofs.PointerRuns.{Pointing, pointing_begin, pointing_safe, pointing_open, pointing_skip, pointing_nothing, pointing_at, pointing_stopped, pointing_kept, pointing_dear}
-use Rattle.writers.proofs.StructRuns.{paid_numbers, quiet, StructRunning, struct_begin, struct_numbers, struct_turn, struct_kept, struct_stopped, struct_dear}
-use Rattle.value.specs.Rows.{Row, row}
-use Rattle.writers.proofs.Pairing.{map_subtype, map_wide, map_wrong, map_pairs, map_empty, mark_room, pairs_asked, pairs_missing, pairs_refused, pairs_dropped, pairs_room, pairs_kept}
+use Prim.Native.Nat.{◌+◌, ◌-◌, ◌*◌, ◌≤◌}
+use Rattle.runs.proofs.Loops.{Ready}
+use Rattle.writers.proofs.PointerRuns.{Pointing}
+use Rattle.writers.proofs.StructRuns.{StructRunning}
 use Rattle.writers.proofs.write.+write.Given as goal
 
 abbrev pub decreases-write_struct : goal.decreases-write_struct
