@@ -1,6 +1,6 @@
 -- All rows are merged: the layout's own answer, and the file's length. Assumes nothing.
 use mathlib.Core.Path.{◌≡◌, refl, sym, ap, subst, ◌∙◌}
-use mathlib.Core.Bool.{Bool, true, false, cond, ◌||◌, or_true, false≢true, true≢false}
+use mathlib.Core.Bool.{Bool, true, false, cond, ◌||◌, or-true, false≢true, true≢false}
 use mathlib.Core.List.{List, []}
 use Prim.Native.Nat.{ℕ, ◌<◌, ◌≤◌}
 use native.Mathlib.Omega.{arith}
@@ -42,7 +42,7 @@ module _ (size : ℕ) (st : Stage) (m n : ℕ) where
     at_long f = rw (good, f) refl
 
     pub at_huge : 16777216 < m → refusal_of st.job 13 ≡ judged_at size st n
-    at_huge f = at_long (rw (lt-ltb 16777216 n (omega (arith, f, e))) (or_true (ltb size n)))
+    at_huge f = at_long (rw (lt-ltb 16777216 n (omega (arith, f, e))) (or-true (ltb size n)))
 
     pub at_past : size < m → refusal_of st.job 13 ≡ judged_at size st n
     at_past f = at_long (rw (lt-ltb size n (omega (arith, f, e))) refl)
@@ -128,7 +128,7 @@ module _ (F : Bytes) (size : ℕ) (st : Stage) (w : Bytes) where
     judge_huge f T room h zs lz n t =
         let e : Ended T room h = well T room h in
         let x : ℕ = length (file_of (winning h.rooted.schema) st.job.value e.state.core) in
-        refuses_long T room h e zs x refl (rw (lt-ltb 16777216 x ((counted T room h e).long f)) (or_true (ltb size x))) (omega (arith, few room zs (met_in h) lz n t, n))
+        refuses_long T room h e zs x refl (rw (lt-ltb 16777216 x ((counted T room h e).long f)) (or-true (ltb size x))) (omega (arith, few room zs (met_in h) lz n t, n))
 
     pub judge_long : len ≤ 16777216 → size < len → Judges F size st w (refusal_of st.job 13)
     judge_long g f T room h zs lz n t =
