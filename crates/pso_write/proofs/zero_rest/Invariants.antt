@@ -1,0 +1,12 @@
+-- `pso_write::zero_rest`: the list with zeros from the next record on is what it is to be.
+use mathlib.Core.Path.{◌≡◌}
+use Prim.Native.Nat.{◌-◌}
+use lib.ListN.{length, take}
+use Rattle.layout.specs.Build.{filled}
+use Rattle.pso_write.proofs.zero_rest.Given as goal
+
+abbrev pub invariant-loop-i : goal.invariant-loop-i
+invariant-loop-i l = (length l.list ≡ length l.initial.list) × (filled (length l.initial.list) (take l.i l.list) ≡ filled (length l.initial.list) (take l.from l.initial.list))
+
+abbrev pub decreases-loop-i : goal.decreases-loop-i
+decreases-loop-i l = length l.list - l.i
