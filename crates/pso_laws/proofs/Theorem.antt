@@ -1,5 +1,5 @@
 -- Every pack that is built, as the library's functions answer of it: `every_built_pack`. Assumes nothing.
-use Prim.Native.Nat.{ℕ, suc, ◌+◌, ◌<◌}
+use Prim.Native.Nat.{zero, ℕ, suc, ◌+◌, ◌<◌}
 use native.Mathlib.Omega.{arith}
 use mathlib.Core.Path.{◌≡◌, refl, sym, ap, ◌∙◌, subst}
 use mathlib.Core.List.{List, [], ◌∷◌, ◌++◌}
@@ -48,6 +48,7 @@ module _ (F : Bytes) (p : R.Pso) (e : R.parse_pso F ≡ ok p) where
       go none q h = absurd (omega (arith, h))
 
   past_last : (k : ℕ) → length p.blocks < k → (block_of F k).found ≡ 0
+  past_last zero h = elim h [ ]
   past_last (suc k) h = ap (λ (b : E.Block). b.found) (block (suc k) ∙ ap block_is (nth_past p.blocks k h))
 
   -- an item that stands in the data stands in a file that begins with the data
