@@ -34,7 +34,6 @@ overflow_add-at-3 c = search rules
 pub returns : goal.returns
 unfolding agrees_with
 returns c =
-
     rw (
       c.records.ensures,
       c.part_from-2.ensures,
