@@ -18,9 +18,6 @@ loop-i-preserved c =
     let h : l.i < length d = omega (arith, c.loop-i-test.true) in
     (simp length-set l.invariant.0, omega arith, ap (λ (x : List ℕ). set x l.i 165) l.invariant.2 ∙ fill_more l.i 165 d h)
 
-pub shape_of-s : goal.shape_of-s
-shape_of-s c = c.loop-i.invariant.0
-
 pub returns : goal.returns
 returns c =
     let l = c.loop-i in

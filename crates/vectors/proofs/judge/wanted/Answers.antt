@@ -4,10 +4,6 @@ use borrow.Author.Tests.{lt-ltb, le-ltb}
 use Rattle.vectors.specs.Judge.{wanted_at}
 use Rattle.vectors.proofs.judge.wanted.Goals as goal
 
-pub overflow_mul-i : goal.overflow_mul-i
-unfolding wanted_at
-overflow_mul-i c = search rules
-
 pub returns-then-i-count : goal.returns-then-i-count
 unfolding wanted_at
 returns-then-i-count c = let a = c.args in rw (lt-ltb a.i a.count c.if-i-count.true) c.row_at.ensures
