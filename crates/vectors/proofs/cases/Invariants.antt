@@ -1,9 +1,7 @@
 -- `vectors::cases` meets its contract. Assumes nothing.
 use mathlib.Core.Path.{◌≡◌}
 use Prim.Native.Nat.{◌-◌, ◌≤◌}
-use native.Mathlib.Omega.{arith}
 use lib.ListN.{length}
-use borrow.Author.Rules.{rules}
 use Rattle.vectors.proofs.cases.Given as goal
 
 abbrev pub invariant-loop-at : goal.invariant-loop-at

@@ -1,5 +1,4 @@
 -- `vectors::judge::agrees` meets its contract: each comparison speaks of the part that it was given. Assumes nothing.
-use borrow.Author.Rules.{rules}
 use Rattle.vectors.specs.Judge.{agrees_with}
 use Rattle.vectors.proofs.judge.agrees.Goals as goal
 

@@ -1,9 +1,9 @@
 -- `vectors::judge::fill` meets its contract. Assumes nothing.
 use mathlib.Core.Path.{◌≡◌, refl, ap, ◌∙◌}
 use mathlib.Core.List.{List, ◌++◌, append-nil}
-use Prim.Native.Nat.{ℕ, ◌-◌, ◌≤◌, ◌<◌}
+use Prim.Native.Nat.{ℕ, ◌≤◌, ◌<◌}
 use native.Mathlib.Omega.{arith}
-use lib.ListN.{length, drop, replicate, set, length-set, drop_of_length-le}
+use lib.ListN.{length, replicate, set, length-set, drop_of_length-le}
 use borrow.Author.Fill.{fill_none, fill_more}
 use borrow.Author.Rules.{rules}
 use Rattle.vectors.proofs.judge.fill.Goals as goal

@@ -1,5 +1,4 @@
 -- `vectors::judge::wanted` meets its contract. Assumes nothing.
-use borrow.Author.Rules.{rules}
 use borrow.Author.Tests.{lt-ltb, le-ltb}
 use Rattle.vectors.specs.Judge.{wanted_at}
 use Rattle.vectors.proofs.judge.wanted.Goals as goal
