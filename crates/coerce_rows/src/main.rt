@@ -9,11 +9,13 @@ use coerce::vector::{Vector, vec_of};
 use coerce::whole::{Bits, Int, float_of, has_str, int_of, str_of};
 use conversions::parse::Word;
 use hash::rage_joaat;
-use libc::STDOUT_FILENO;
 use names::enums::enum_value;
 use names::flags::flags_bits;
 use names::hashes::hash_of;
 use numbers::words::{part_from, part_to, read_u32, read_u64};
+use std::alloc::Global;
+use std::io;
+use std::io::Read;
 use value::{Row, read_row};
 
 fn is_int(row: &[u8], at: usize, x: Int) -> bool
@@ -123,30 +125,25 @@ fn tally(all: &[u8], n: usize, which: u32) -> Count
     }
 }
 
-fn line(name: &[u8], all: &[u8], which: u32) {
+fn line(rt: &impl Print, name: &str, all: &[u8], which: u32) -> io::Result<()> {
     let n = read_u32(all, 0) as usize;
     if 1000 <= n {
-        return;
+        return Ok(());
     }
     let t = tally(all, n, which);
-    io::write_all(STDOUT_FILENO, name);
-    io::write_all(STDOUT_FILENO, b": ");
-    io::print_decimal(STDOUT_FILENO, t.good);
-    io::write_all(STDOUT_FILENO, b" of ");
-    io::print_decimal(STDOUT_FILENO, t.rows);
-    io::write_all(STDOUT_FILENO, b" rows agree\n");
+    println!(rt; "{name}: {} of {} rows agree", t.good, t.rows)
 }
 
-fn lines(all: &[u8]) {
-    line(b"int_of", all, 0);
-    line(b"float_of", all, 1);
-    line(b"vec_of 2", all, 2);
-    line(b"vec_of 3", all, 3);
-    line(b"vec_of 4", all, 4);
-    line(b"str_of", all, 5);
-    line(b"hash_of", all, 6);
-    line(b"enum_value", all, 7);
-    line(b"flags_bits", all, 8);
+fn lines(rt: &impl Print, all: &[u8]) -> io::Result<()> {
+    line(rt, "int_of", all, 0)?;
+    line(rt, "float_of", all, 1)?;
+    line(rt, "vec_of 2", all, 2)?;
+    line(rt, "vec_of 3", all, 3)?;
+    line(rt, "vec_of 4", all, 4)?;
+    line(rt, "str_of", all, 5)?;
+    line(rt, "hash_of", all, 6)?;
+    line(rt, "enum_value", all, 7)?;
+    line(rt, "flags_bits", all, 8)
 }
 
 // Published values of the one-at-a-time hash, of bytes as they are: two of Wikipedia's "Jenkins hash function"; Adder of ScriptHookVDotNet's
@@ -157,23 +154,19 @@ fn published() -> u64 {
         + one(rage_joaat(b"adder") == 0xB779A091)
 }
 
-fn published_line() {
-    io::write_all(STDOUT_FILENO, b"rage_joaat: ");
-    io::print_decimal(STDOUT_FILENO, published());
-    io::write_all(STDOUT_FILENO, b" of 3 published values agree\n");
+fn published_line(rt: &impl Print) -> io::Result<()> {
+    println!(rt; "rage_joaat: {} of 3 published values agree", published())
 }
 
-fn read_all(space: &mut [u8]) -> usize {
-    io::read_full(0, space)
+// The first 65,536 bytes of the input, or all of it where it has no more.
+fn read_all(rt: &impl Input, alloc: Global) -> io::Result<Vec<u8>> {
+    let mut space = Vec::new(alloc);
+    rt.reader().take(65536).read_to_end(&mut space)?;
+    Ok(space)
 }
 
-fn lines_of(space: &[u8], n: usize) {
-    lines(part_to(space, n));
-}
-
-fn main() {
-    let mut space = io::large_buffer();
-    let n = read_all(&mut space);
-    lines_of(&space, n);
-    published_line();
+fn main(rt: HostRuntime) -> io::Result<()> {
+    let space = read_all(&rt, rt.alloc())?;
+    lines(&rt, &space)?;
+    published_line(&rt)
 }

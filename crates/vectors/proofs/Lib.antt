@@ -1,3 +1,2 @@
--- What the proof of `pack` says of an array whose front is lent; the loops of the comparisons.
-pub mod Front
+-- The loops of the comparisons.
 pub mod Judging

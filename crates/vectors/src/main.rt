@@ -10,10 +10,12 @@ ghost use Rattle.turns.specs.Answers.{leaves};
 
 use judge::{agrees, fill, is_reading};
 use layout::Remark;
-use libc::STDOUT_FILENO;
 use numbers::words::{part_from, part_to, read_u32};
 use pso::parse::{Parsed, parse_pso};
 use pso_write::build_pso;
+use std::alloc::Global;
+use std::io;
+use std::io::Read;
 use turns::Built;
 
 mod judge;
@@ -51,62 +53,62 @@ fn pack(
     keep(b, list)
 }
 
-fn say(what: &[u8], n: u64) {
-    io::write_all(STDOUT_FILENO, what);
-    io::print_decimal(STDOUT_FILENO, n);
-}
-
-fn end(same: bool) {
+fn end(rt: &impl Print, same: bool) -> io::Result<()> {
     if same {
-        io::write_all(STDOUT_FILENO, b", same\n");
+        println!(rt; ", same")
     } else {
-        io::write_all(STDOUT_FILENO, b", different\n");
+        println!(rt; ", different")
     }
 }
 
 // The line of a case that was built.
-fn built_line(code: u32, len: usize, count: usize, same: bool) {
-    say(b": code ", code as u64);
-    say(b", ", len as u64);
-    say(b" bytes, ", count as u64);
-    io::write_all(STDOUT_FILENO, b" remarks");
-    end(same);
+fn built_line(rt: &impl Print, code: u32, len: usize, count: usize, same: bool) -> io::Result<()> {
+    print!(rt; ": code {code}, {len} bytes, {count} remarks")?;
+    end(rt, same)
 }
 
 // The line of a file that was read.
-fn read_line(code: u32, root: u32, place: usize, len: usize, blocks: usize, same: bool) {
-    say(b": code ", code as u64);
-    say(b", root ", root as u64);
-    say(b", ", len as u64);
-    say(b" bytes at ", place as u64);
-    say(b", ", blocks as u64);
-    io::write_all(STDOUT_FILENO, b" blocks");
-    end(same);
+fn read_line(
+    rt: &impl Print,
+    code: u32,
+    root: u32,
+    place: usize,
+    len: usize,
+    blocks: usize,
+    same: bool,
+) -> io::Result<()> {
+    print!(rt; ": code {code}, root {root}, {len} bytes at {place}, {blocks} blocks")?;
+    end(rt, same)
 }
 
-fn answer(row: &[u8], work: &[u8], out: &[u8], n: usize, b: Built, list: [Remark; 64]) {
+fn answer(
+    rt: &impl Print,
+    row: &[u8],
+    work: &[u8],
+    out: &[u8],
+    n: usize,
+    b: Built,
+    list: [Remark; 64],
+) -> io::Result<()> {
     match b {
         Built::File(len, count) => {
-            built_line(
-                0,
-                len,
-                count,
-                agrees(row, work, out, n, 0, len, count, list),
-            );
+            let same = agrees(row, work, out, n, 0, len, count, list);
+            built_line(rt, 0, len, count, same)
         }
         Built::Refused(code) => {
-            built_line(code, 0, 0, agrees(row, work, out, n, code, 0, 0, list));
+            let same = agrees(row, work, out, n, code, 0, 0, list);
+            built_line(rt, code, 0, 0, same)
         }
     }
 }
 
 // A case for the packer. All areas are full of noise before.
-fn build_case(row: &[u8], work: &mut [u8], out: &mut [u8]) {
+fn build_case(rt: &impl Print, row: &[u8], work: &mut [u8], out: &mut [u8]) -> io::Result<()> {
     let a = read_u32(row, 8) as usize;
     let b = read_u32(row, 12) as usize;
     let n = read_u32(row, 24) as usize;
     if 64 < n {
-        return;
+        return Ok(());
     }
     let sheet = part_to(part_from(row, 40), a);
     let schema = part_to(part_from(row, 40 + a), b);
@@ -115,11 +117,11 @@ fn build_case(row: &[u8], work: &mut [u8], out: &mut [u8]) {
     let k = pack(sheet, schema, work, out, n, judge::noises());
     let built = k.built;
     let list = k.list;
-    answer(row, work, out, n, built, list);
+    answer(rt, row, work, out, n, built, list)
 }
 
 // A case for the reader.
-fn read_case(row: &[u8]) {
+fn read_case(rt: &impl Print, row: &[u8]) -> io::Result<()> {
     let file = part_to(part_from(row, 40), read_u32(row, 8) as usize);
     match parse_pso(file) {
         Parsed::Pso {
@@ -128,81 +130,83 @@ fn read_case(row: &[u8]) {
             len,
             blocks,
         } => {
-            read_line(
-                0,
-                root,
-                place,
-                len,
-                blocks,
-                is_reading(row, 0, root, place, len, blocks),
-            );
+            let same = is_reading(row, 0, root, place, len, blocks);
+            read_line(rt, 0, root, place, len, blocks, same)
         }
         Parsed::Refused(code) => {
-            read_line(code, 0, 0, 0, 0, is_reading(row, code, 0, 0, 0, 0));
+            let same = is_reading(row, code, 0, 0, 0, 0);
+            read_line(rt, code, 0, 0, 0, 0, same)
         }
     }
 }
 
-fn within(row: &[u8], work: &mut [u8], w: usize, out: &mut [u8], o: usize)
+fn within(
+    rt: &impl Print,
+    row: &[u8],
+    work: &mut [u8],
+    w: usize,
+    out: &mut [u8],
+    o: usize,
+) -> io::Result<()>
     requires w_in_bounds { w ≤ length work.old }
     requires o_in_bounds { o ≤ length out.old }
 {
-    build_case(row, &mut work[..w], &mut out[..o]);
+    build_case(rt, row, &mut work[..w], &mut out[..o])
 }
 
 // One case; no answer where it has no room here.
-fn one(number: u64, row: &[u8], work: &mut [u8], out: &mut [u8]) {
-    say(b"case ", number);
+fn one(
+    rt: &impl Print,
+    number: u64,
+    row: &[u8],
+    work: &mut [u8],
+    out: &mut [u8],
+) -> io::Result<()> {
+    print!(rt; "case {number}")?;
     if read_u32(row, 4) == 1 {
-        read_case(row);
-        return;
+        return read_case(rt, row);
     }
     let w = read_u32(row, 16) as usize;
     let o = read_u32(row, 20) as usize;
     if work.len() < w {
-        return;
+        return Ok(());
     }
     if out.len() < o {
-        return;
+        return Ok(());
     }
-    within(row, work, w, out, o);
+    within(rt, row, work, w, out, o)
 }
 
-fn cases(all: &[u8], work: &mut [u8], out: &mut [u8]) {
+fn cases(rt: &impl Print, all: &[u8], work: &mut [u8], out: &mut [u8]) -> io::Result<()> {
     let mut at: usize = 0;
     let mut number: u64 = 0;
     while at < all.len() {
         let len = read_u32(all, at) as usize;
         if len < 40 {
-            return;
+            return Ok(());
         }
-        one(number, part_to(part_from(all, at), len), work, out);
+        one(rt, number, part_to(part_from(all, at), len), work, out)?;
         number += 1;
         at += len;
     }
+    Ok(())
 }
 
-fn read_slice(all: &mut [u8]) -> usize {
-    io::read_full(0, all)
+// The first 327,680 bytes of the input, or all of it where it has no more.
+fn read_all(rt: &impl Input, alloc: Global) -> io::Result<Vec<u8>> {
+    let mut all = Vec::new(alloc);
+    rt.reader().take(327680).read_to_end(&mut all)?;
+    Ok(all)
 }
 
-fn read_all(all: &mut [u8; 327680]) -> usize {
-    read_slice(all)
+// Makes the areas that the cases are lent: a work area of 4 MB for refusal 10.
+fn replay(rt: &impl Print, alloc: Global, all: &[u8]) -> io::Result<()> {
+    let mut work = vec![in alloc; 0u8; 4325376]?;
+    let mut out = vec![in alloc; 0u8; 2048]?;
+    cases(rt, all, &mut work, &mut out)
 }
 
-fn of(all: &[u8], n: usize, work: &mut [u8], out: &mut [u8]) {
-    cases(part_to(all, n), work, out);
-}
-
-// The areas of `main`, as slices: a work area of 4 MB for refusal 10.
-fn replay(all: &[u8; 327680], n: usize, work: &mut [u8; 4325376], out: &mut [u8; 2048]) {
-    of(all, n, work, out);
-}
-
-fn main() {
-    let mut all = [0u8; 327680];
-    let mut work = [0u8; 4325376];
-    let mut out = [0u8; 2048];
-    let n = read_all(&mut all);
-    replay(&all, n, &mut work, &mut out);
+fn main(rt: HostRuntime) -> io::Result<()> {
+    let all = read_all(&rt, rt.alloc())?;
+    replay(&rt, rt.alloc(), &all)
 }

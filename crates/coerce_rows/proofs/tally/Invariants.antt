@@ -1,8 +1,6 @@
 -- `coerce_rows::tally` meets its contract. Assumes nothing.
 use Prim.Native.Nat.{◌-◌, ◌≤◌}
-use native.Mathlib.Omega.{arith}
 use lib.ListN.{length}
-use borrow.Author.Rules.{rules}
 use Rattle.coerce_rows.proofs.tally.Given as goal
 
 abbrev pub invariant-loop-at : goal.invariant-loop-at

@@ -1,40 +1,10 @@
 -- `vectors::judge::agrees` meets its contract: each comparison speaks of the part that it was given. Assumes nothing.
-use borrow.Author.Rules.{rules}
 use Rattle.vectors.specs.Judge.{agrees_with}
 use Rattle.vectors.proofs.judge.agrees.Goals as goal
-
-pub overflow_cast-at : goal.overflow_cast-at
-unfolding agrees_with
-overflow_cast-at c = search rules
-
-pub overflow_add-at : goal.overflow_add-at
-unfolding agrees_with
-overflow_add-at c = search rules
-
-pub overflow_cast-at-2 : goal.overflow_cast-at-2
-unfolding agrees_with
-overflow_cast-at-2 c = search rules
-
-pub overflow_add-at-2 : goal.overflow_add-at-2
-unfolding agrees_with
-overflow_add-at-2 c = search rules
-
-pub overflow_cast-size : goal.overflow_cast-size
-unfolding agrees_with
-overflow_cast-size c = search rules
-
-pub overflow_cast-c : goal.overflow_cast-c
-unfolding agrees_with
-overflow_cast-c c = search rules
-
-pub overflow_add-at-3 : goal.overflow_add-at-3
-unfolding agrees_with
-overflow_add-at-3 c = search rules
 
 pub returns : goal.returns
 unfolding agrees_with
 returns c =
-
     rw (
       c.records.ensures,
       c.part_from-2.ensures,

@@ -1,10 +1,5 @@
 -- `vectors::judge::all_are` meets its contract. Assumes nothing.
-use mathlib.Core.Path.{◌≡◌, refl, ◌∙◌}
-use Prim.Native.Nat.{◌-◌}
-use native.Mathlib.Omega.{arith}
-use lib.ListN.{length, drop}
-use borrow.Author.Rules.{rules}
-use Rattle.vectors.specs.Judge.{all_are}
+use mathlib.Core.Path.{refl, ◌∙◌}
 use Rattle.vectors.proofs.Judging.{all_turn, all_differ, all_done}
 use Rattle.vectors.proofs.judge.all_are.Goals as goal
 

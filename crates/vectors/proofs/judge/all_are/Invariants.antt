@@ -1,11 +1,8 @@
 -- `vectors::judge::all_are` meets its contract. Assumes nothing.
-use mathlib.Core.Path.{◌≡◌, refl, ◌∙◌}
+use mathlib.Core.Path.{◌≡◌}
 use Prim.Native.Nat.{◌-◌}
-use native.Mathlib.Omega.{arith}
 use lib.ListN.{length, drop}
-use borrow.Author.Rules.{rules}
 use Rattle.vectors.specs.Judge.{all_are}
-use Rattle.vectors.proofs.Judging.{all_turn, all_differ, all_done}
 use Rattle.vectors.proofs.judge.all_are.Given as goal
 
 abbrev pub invariant-loop-i : goal.invariant-loop-i

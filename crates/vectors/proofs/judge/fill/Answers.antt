@@ -1,9 +1,9 @@
 -- `vectors::judge::fill` meets its contract. Assumes nothing.
 use mathlib.Core.Path.{◌≡◌, refl, ap, ◌∙◌}
 use mathlib.Core.List.{List, ◌++◌, append-nil}
-use Prim.Native.Nat.{ℕ, ◌-◌, ◌≤◌, ◌<◌}
+use Prim.Native.Nat.{ℕ, ◌≤◌, ◌<◌}
 use native.Mathlib.Omega.{arith}
-use lib.ListN.{length, drop, replicate, set, length-set, drop_of_length-le}
+use lib.ListN.{length, replicate, set, length-set, drop_of_length-le}
 use borrow.Author.Fill.{fill_none, fill_more}
 use borrow.Author.Rules.{rules}
 use Rattle.vectors.proofs.judge.fill.Goals as goal
@@ -17,9 +17,6 @@ loop-i-preserved c =
     let d = c.args.s.now in
     let h : l.i < length d = omega (arith, c.loop-i-test.true) in
     (simp length-set l.invariant.0, omega arith, ap (λ (x : List ℕ). set x l.i 165) l.invariant.2 ∙ fill_more l.i 165 d h)
-
-pub shape_of-s : goal.shape_of-s
-shape_of-s c = c.loop-i.invariant.0
 
 pub returns : goal.returns
 returns c =

@@ -1,12 +1,7 @@
 -- `vectors::judge::wanted` meets its contract. Assumes nothing.
-use borrow.Author.Rules.{rules}
 use borrow.Author.Tests.{lt-ltb, le-ltb}
 use Rattle.vectors.specs.Judge.{wanted_at}
 use Rattle.vectors.proofs.judge.wanted.Goals as goal
-
-pub overflow_mul-i : goal.overflow_mul-i
-unfolding wanted_at
-overflow_mul-i c = search rules
 
 pub returns-then-i-count : goal.returns-then-i-count
 unfolding wanted_at
