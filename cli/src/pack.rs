@@ -1,7 +1,7 @@
 //! `pack`: sheets and a schema file become packs.
 use crate::arguments::Pack;
 use crate::jobs::{jobs, Job};
-use crate::library::{Lent, LARGEST_CHARGE, LEAST_WORK, LONGEST_PACK};
+use crate::library::{self, Lent, LARGEST_CHARGE, LEAST_WORK, LONGEST_PACK};
 use crate::names::Names;
 use crate::notes::noted;
 use crate::report::{Report, Reports};
@@ -76,6 +76,9 @@ impl<'a> Packing<'a> {
 
     /// The scene, where it can be followed. One that takes too many steps is a failure, unless there is no limit.
     fn followed(&self, job: &Job, sheet: &[u8], most: Lent) -> Result<Option<Scene>, Failure> {
+        if library::is_refused_early(sheet, &self.schema) {
+            return Ok(None);
+        }
         let scene = match Scene::of(sheet, &self.schema, most) {
             Ok(scene) if scene.is_light() => return Ok(Some(scene)),
             Err(Lost::Refused) => return Ok(None),

@@ -40,19 +40,14 @@ fn lent(schema: &[u8], records: usize) -> Lent {
 /// A scene that can be built in the time that a check may take; none where it is refused before it is laid.
 fn light(sheet: &[u8], schema: Schema) -> Result<Option<Scene>, Missing> {
     let what = format!("the scene with the definitions of {}", schema.whose);
-    let scene = match Scene::of(sheet, schema.file, lent(schema.file, MOST_REMARKS)) {
-        Ok(scene) => scene,
+    let most = commas(MOST_REMARKS as u64);
+    Err(Missing::Unchecked(match Scene::of(sheet, schema.file, lent(schema.file, MOST_REMARKS)) {
         Err(Lost::Refused) => return Ok(None),
-        Err(Lost::Long) => return Err(Missing::Unchecked(format!("{what} takes too many steps to be laid"))),
-    };
-    if scene.answer == Err(14) {
-        let most = commas(MOST_REMARKS as u64);
-        return Err(Missing::Unchecked(format!("{what} has more than {most} different remarks")));
-    }
-    if !scene.is_light() {
-        return Err(Missing::Unchecked(format!("{what} takes too many steps to be laid")));
-    }
-    Ok(Some(scene))
+        Err(Lost::Full) => format!("{what} has more than {most} different remarks"),
+        Ok(scene) if scene.answer == Err(14) => format!("{what} has more than {most} different remarks"),
+        Ok(scene) if scene.is_light() => return Ok(Some(scene)),
+        _ => format!("{what} takes too many steps to be laid"),
+    }))
 }
 
 /// A refusal of building. A sheet or a schema file that is broken says nothing about the pack.

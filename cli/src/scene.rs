@@ -31,6 +31,8 @@ pub enum Lost {
     Refused,
     /// It takes too many steps.
     Long,
+    /// It does, and had met 14 before.
+    Full,
 }
 
 impl Lost {
@@ -57,9 +59,6 @@ impl Scene {
     fn paced(sheet: &[u8], schema: &[u8], lent: Lent, free: bool) -> Result<Scene, Lost> {
         let bytes = (sheet.len() + schema.len()) as u64;
         let most = STEPS + STEPS_A_BYTE * bytes;
-        if library::is_refused_early(sheet, schema) {
-            return Err(Lost::Refused);
-        }
         if index_entries(schema) > MOST_ENTRIES {
             return Err(Lost::Long);
         }
@@ -70,6 +69,7 @@ impl Scene {
         let Followed { state, answer } =
             follow(&sheet, &schema, &limits, &Pace { free, steps: most }).map_err(Lost::of)?;
         match answer {
+            Err(GAVE_UP) if state.full => Err(Lost::Full),
             Err(GAVE_UP) => Err(Lost::Long),
             answer => Ok(Scene { steps: most - state.steps, state, answer, most }),
         }

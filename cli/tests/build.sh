@@ -1,10 +1,11 @@
-# Building in a copy of the tree, with stand-ins for rt, cargo and apt-get.
-mkdir "$t/tree" "$t/tree/crates" "$t/full"
+# Building in a copy of the tree, with stand-ins for rt, its kit, cargo and apt-get.
+mkdir "$t/tree" "$t/full"
 cp -r cli "$t/tree"
 for folder in $(sed -n 's/.*path = "\.\.\/\([^"]*\)".*/\1/p' cli/Cargo.toml); do cp -r "$folder" "$t/tree"; done
-# Six crates, of which sandvurek needs five, the kit's io not among them.
-printf '%s\n' '# crates' 'numbers:' 'hash: numbers' 'members: numbers' 'writers: members io' 'sandvurek: writers hash' 'vectors: writers io' \
-    >"$t/tree/crates.txt"
+# Seven crates, of which the exports need six, the kit's io not among them.
+printf '%s\n' '# crates' 'numbers:' 'hash: numbers' 'members: numbers' 'sandvurek_c staticlib: writers sandvurek # exports' 'writers: members io' \
+    'sandvurek: writers hash' 'vectors: writers io' >"$t/tree/crates.txt"
+for name in numbers hash members writers sandvurek sandvurek_c; do mkdir -p "$t/tree/crates/$name/src"; : >"$t/tree/crates/$name/src/lib.rt"; done
 stand_ins=$root/cli/tests/stand-ins
 
 # build STATUS [NAME=VALUE...] [WORDS...]: cli/build of the copy. $t/calls has what it called.
@@ -16,25 +17,42 @@ build() {
 }
 in_copy() (
     unset LIBRARY
-    export "CALLS=$t/calls" "ARCHIVE=$root/target/cli/libsandvurek.a" "RT=$stand_ins/rt" "CARGO=$stand_ins/cargo" "REGISTRY=$t/full"
+    export "CALLS=$t/calls" "ARCHIVE=$root/target/cli/libsandvurek.a" "RT=$stand_ins/rt" "KIT=$stand_ins/kit"
+    export "CARGO=$stand_ins/cargo" "REGISTRY=$t/full"
     while case ${1:-} in *=*) true ;; *) false ;; esac; do export "$1"; shift; done
     PATH="$stand_ins:$PATH" cli/build "$@"
 )
 calls() { ok "$1 calls of $2" [ "$(grep -c "^$2" "$t/calls")" = "$1" ]; }
 
 # The library: a line for each crate, and nothing the second time.
-build 0 library; empty out
-has err "proving: crate 1 of 5, numbers"; has err "proving: crate 3 of 5, members"; has err "proving: crate 5 of 5, sandvurek"
-ok "5 lines" [ "$(grep -c '^proving: ' "$t/err")" = 5 ]; calls 1 rt\ staticlib
+built=$t/tree/target/staticlib/libsandvurek.a
+build 0 library; empty out; same "$built" target/cli/libsandvurek.a
+has err "proving: crate 1 of 6, numbers"; has err "proving: crate 3 of 6, writers"; has err "proving: crate 6 of 6, sandvurek_c"
+ok "6 lines" [ "$(grep -c '^proving: ' "$t/err")" = 6 ]; calls 1 rt\ lib
 build 0 library; empty err; calls 0 rt
+touch "$t/tree/crates/hash/src/lib.rt"; build 0 library; calls 1 rt\ lib
+mkdir "$t/tree/crates/hash/specs"; build 0 library; calls 1 rt\ lib
 touch "$t/tree/crates.txt"
-build 1 FAIL=1 library; has err "rt: writers NOT PROVED"; has err "target/cli/staticlib.log has all of it"
+build 1 FAIL=1 library; has err "rt: the library writers did not build"; has err "target/cli/staticlib.log has all of it"
 build 2 RT=no-rt library; has err "no-rt is needed and was not found"
 if command -v script >/dev/null 2>&1; then
     : >"$t/calls"; CALLS=$t/calls ARCHIVE=$root/target/cli/libsandvurek.a RT=$stand_ins/rt \
         script -qec "env -u LIBRARY $t/tree/cli/build library" "$t/out" >/dev/null 2>&1 </dev/null || true
-    ok "one line on a terminal" grep -q "$(printf '\rproving: crate 5 of 5, sandvurek\033')" "$t/out"
+    ok "one line on a terminal" grep -q "$(printf '\rproving: crate 6 of 6, sandvurek_c\033')" "$t/out"
 fi
+
+# Over what rt ci has proved nothing is proved again, unless something was changed since or another command of rt's took its place.
+proved_all() { for name in numbers hash members writers sandvurek; do rm -rf "$t/tree/crates/$name/out"; mkdir -p "$t/tree/crates/$name/out/rlib/$name.rlib"; done; }
+touch "$t/tree/crates.txt"; proved_all; rm "$built"
+build 0 library; has err "building the library over what rt ci proved"; lacks err "proving:"; same "$built" target/cli/libsandvurek.a
+calls 1 rattle\ build; calls 0 rt\ lib
+ok "the libraries that the exports name" \
+    grep -qF -- "--extern writers=$t/tree/crates/writers/out/rlib/writers.rlib --extern sandvurek=$t/tree/crates/sandvurek/out/rlib/sandvurek.rlib -L" "$t/calls"
+build 0 library; empty err; calls 0 rt
+proved_all; touch "$t/tree/crates/members/src/lib.rt"; build 0 library; calls 0 rattle; calls 1 rt\ lib
+proved_all; rmdir "$t/tree/crates/hash/out/rlib/hash.rlib"; rm "$built"; build 0 library; calls 0 rattle; calls 1 rt\ lib
+proved_all; : >"$t/tree/crates/hash/out/rlib/stamp"; rm "$built"; build 0 library; calls 0 rattle; calls 1 rt\ lib
+proved_all; rm "$built"; build 1 FAIL=1 library; calls 1 rattle\ build; calls 1 rt\ lib; gone "$built"
 
 # Two at once: the second waits and finds all done.
 touch "$t/tree/crates.txt"; : >"$t/calls"
@@ -47,7 +65,7 @@ done
 touch "$t/go"
 got=0; wait "$job1" || got=$?; ok "status $got of the first" [ "$got" = 0 ]
 got=0; wait "$job2" || got=$?; ok "status $got of the second" [ "$got" = 0 ]
-cp "$t/err.2" "$t/err"; has err "waiting for another build"; lacks err "proving"; calls 1 rt\ staticlib; calls 1 rt\ ends
+cp "$t/err.2" "$t/err"; has err "waiting for another build"; lacks err "proving"; calls 1 rt\ lib; calls 1 rt\ ends
 
 # The command line. What is missing is said before the proof.
 touch "$t/tree/crates.txt"

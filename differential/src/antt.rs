@@ -18,17 +18,14 @@ const PER_MADE: usize = 20;
 const PER_LAWS: usize = 10;
 const PER_READ: usize = 20;
 
-const HEAD: &str = "use Prim.Native.Nat.{ℕ}
-use mathlib.Core.Path.{_≡_, refl}
-use mathlib.Core.Bool.{true}
-use mathlib.Core.List.{List, [], _∷_, _++_}
-use Rattle·numbers.specs.Words.{Bytes, words}
-use Rattle·numbers.specs.Result.{Result, ok, refused, mapResult}
-use Rattle·pso.specs.Reader.{Pso, parsePso}
-use Rattle·layout.specs.Build.{Built, layout, build}
-use Rattle·layout.specs.Demand3.{readBack}
-use Rattle·layout.specs.Eval
-use Rattle·cases·specs.specs.Check
+const HEAD: &str = "use Rattle.std.specs.Prelude.{ℕ, ◌≡◌, refl, true, List, [], ◌∷◌, ◌++◌}
+use Rattle.numbers.specs.Words.{Bytes, words}
+use Rattle.numbers.specs.Result.{Result, ok, refused, map_result}
+use Rattle.pso.specs.Reader.{Pso, parse_pso}
+use Rattle.layout.specs.Build.{Built, layout, build}
+use Rattle.layout.specs.Demand3.{read_back}
+use Rattle.layout.specs.Eval
+use Rattle.cases.specs.Check
 ";
 
 /// A list of terms.
@@ -79,15 +76,15 @@ fn laws(n: usize, case: &Case, pack: &Pack, again: &Pack) -> String {
     let work = work_for(entries, pack.charge);
     let records = pack.remarks.len().max(again.remarks.len());
     let laid = format!("layout T{n} S{n} {work} {records}");
-    write!(s, "reads{n} : parsePso F{n} ≡ mapResult readBack ({laid})\nunfolding Eval.evaluated T{n} S{n} F{n}\nreads{n} = refl\n\n").unwrap();
-    write!(s, "holds{n} : mapResult Check.holds ({laid}) ≡ ok true\nunfolding Eval.evaluated Check.evaluated T{n} S{n}\nholds{n} = refl\n\n").unwrap();
+    write!(s, "reads{n} : parse_pso F{n} ≡ map_result read_back ({laid})\nunfolding Eval.evaluated T{n} S{n} F{n}\nreads{n} = refl\n\n").unwrap();
+    write!(s, "holds{n} : map_result Check.holds ({laid}) ≡ ok true\nunfolding Eval.evaluated Check.evaluated T{n} S{n}\nholds{n} = refl\n\n").unwrap();
     let answer = format!("ok (record {{ file = F{n}; remarks = {} }})", remarks(&again.remarks));
     write!(s, "rebuilds{n} : build T{n} F{n} {work} {} {records} ≡ {answer}\nunfolding Eval.evaluated T{n} F{n}\nrebuilds{n} = refl\n", pack.file.len()).unwrap();
     s
 }
 
 fn pso(file: &[u8], r: &Reading) -> String {
-    let block = |b: &reader::FileBlock| format!("record {{ name = 0x{:X}; place = 0x{:X}; length′ = 0x{:X} }}", b.name, b.place, b.length);
+    let block = |b: &reader::FileBlock| format!("record {{ name = 0x{:X}; place = 0x{:X}; length' = 0x{:X} }}", b.name, b.place, b.length);
     let member = |m: &crate::model::schema::Member| {
         format!("record {{ name = 0x{:X}; type = 0x{:X}; subtype = 0x{:X}; offset = 0x{:X}; reference = 0x{:X} }}", m.name, m.ty, m.subtype, m.offset, m.reference)
     };
@@ -98,7 +95,7 @@ fn pso(file: &[u8], r: &Reading) -> String {
     let enumeration = |e: &crate::model::schema::Enumeration| format!("record {{ name = 0x{:X}; entries = {} }}", e.name, list(e.entries.iter().map(entry)));
     let d = &r.definitions;
     format!(
-        "ok (record {{ root = 0x{:X}; data′ = {}; blocks = {}; schema = record {{ structs = {}; enums = {} }} }})",
+        "ok (record {{ root = 0x{:X}; data' = {}; blocks = {}; schema = record {{ structs = {}; enums = {} }} }})",
         r.root, bytes(&file[r.data.0..r.data.0 + r.data.1]), list(r.blocks.iter().map(block)), list(d.structures.iter().map(structure)), list(d.enums.iter().map(enumeration))
     )
 }
@@ -110,7 +107,7 @@ fn read(n: usize, file: &[u8]) -> String {
         Ok(r) => pso(file, &r),
         Err(code) => format!("refused {code}"),
     };
-    write!(s, "read{n} : parsePso F{n} ≡ {answer}\nunfolding Eval.evaluated F{n}\nread{n} = refl\n").unwrap();
+    write!(s, "read{n} : parse_pso F{n} ≡ {answer}\nunfolding Eval.evaluated F{n}\nread{n} = refl\n").unwrap();
     s
 }
 

@@ -8,27 +8,23 @@ use crate::model::text::{hash_text, parses_float, parts, trim};
 use crate::rng::Rng;
 
 const HEAD: &str = "-- Texts and numbers with their coercions.
-use Prim.Native.Nat.{ℕ}
-use mathlib.Core.Path.{_≡_, refl}
-use mathlib.Core.Bool.{cond}
-use mathlib.Core.List.{List, [], _∷_, map}
-use lib.ListN.{length}
-use Rattle·numbers.specs.Words.{Bytes}
-use Rattle·numbers.specs.Signed.{signedOf, wordOf}
-use Rattle·numbers.specs.Round.{f32Of}
-use Rattle·numbers.specs.Trunc.{i64Of}
-use Rattle·coerce.specs.Text.{trimmed, parts}
-use Rattle·coerce.specs.Float.{parsesFloat}
-use Rattle·coerce.specs.Numbers.{Fit, fits, unfit, floatText, intText}
-use Rattle·coerce.specs.Names.{hashText}
-use Rattle·layout.specs.Eval
+use Rattle.std.specs.Prelude.{ℕ, ◌≡◌, refl, cond, List, [], ◌∷◌, map, length}
+use Rattle.numbers.specs.Words.{Bytes}
+use Rattle.conversions.specs.Signed.{signed_of, word_of}
+use Rattle.conversions.specs.Round.{f32_of}
+use Rattle.conversions.specs.Trunc.{i64_of}
+use Rattle.texts.specs.Text.{trimmed, parts}
+use Rattle.texts.specs.Float.{parses_float}
+use Rattle.coerce.specs.Numbers.{Fit, fits, unfit, float_text, int_text}
+use Rattle.names.specs.Names.{hash_text}
+use Rattle.layout.specs.Eval
 
 -- whether it is a float, the whole number, the hash, the number of parts
 data Reading : Type 0 where
   reading : ℕ → Fit ℕ → ℕ → ℕ → Reading
 
 read : Bytes → Reading
-read t = reading (cond (parsesFloat (trimmed t)) 1 0) (intText (trimmed t)) (hashText t) (length (parts t))
+read t = reading (cond (parses_float (trimmed t)) 1 0) (int_text (trimmed t)) (hash_text t) (length (parts t))
 ";
 
 /// A text as a whole number.
@@ -41,7 +37,7 @@ fn reading(t: &[u8]) -> String {
     let fit = match whole(t) {
         Fit::Fits(x) => format!("(fits {x})"),
         Fit::Unfit => "unfit".to_string(),
-        Fit::FloatText => "floatText".to_string(),
+        Fit::FloatText => "float_text".to_string(),
     };
     format!("reading {} {fit} 0x{:X} {}", parses_float(trim(t)) as u32, hash_text(t), parts(t).count())
 }
@@ -85,8 +81,8 @@ pub fn texts(seed: u64) -> String {
     let patterns: Vec<u32> = (0..260).map(|_| pattern(&mut rng)).collect();
     format!(
         "{HEAD}\ntexts : List Bytes\ntexts = {}\n\nreadings : map read texts ≡ {}\nunfolding Eval.evaluated texts read\nreadings = refl\n\n\
-         wholes : List ℕ\nwholes = {}\n\nsingles : map (λ x. f32Of (signedOf 64 x)) wholes ≡ {}\nunfolding Eval.evaluated wholes\nsingles = refl\n\n\
-         patterns : List ℕ\npatterns = {}\n\ntruncated : map (λ b. wordOf 64 (i64Of b)) patterns ≡ {}\nunfolding Eval.evaluated patterns\ntruncated = refl\n",
+         wholes : List ℕ\nwholes = {}\n\nsingles : map (λ x. f32_of (signed_of 64 x)) wholes ≡ {}\nunfolding Eval.evaluated wholes\nsingles = refl\n\n\
+         patterns : List ℕ\npatterns = {}\n\ntruncated : map (λ b. word_of 64 (i64_of b)) patterns ≡ {}\nunfolding Eval.evaluated patterns\ntruncated = refl\n",
         list(all.iter().map(as_bytes)),
         list(all.iter().map(|t| reading(t))),
         list(wholes.iter().map(|x| format!("0x{x:X}"))),

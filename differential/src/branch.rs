@@ -90,6 +90,7 @@ pub fn ways(case: usize) -> &'static [Way] {
 pub struct Hits {
     pub counts: Vec<[u64; WAYS.len()]>,
     pub values: [[u64; 22]; PLACES.len()],
+    closed: bool,
 }
 
 named! { Place, PLACES:
@@ -99,15 +100,20 @@ named! { Place, PLACES:
 
 impl Hits {
     pub fn new() -> Hits {
-        Hits { counts: vec![[0; WAYS.len()]; CASES.len()], values: [[0; 22]; PLACES.len()] }
+        Hits { counts: vec![[0; WAYS.len()]; CASES.len()], values: [[0; 22]; PLACES.len()], closed: false }
+    }
+
+    /// What is passed through from here on is not counted.
+    pub fn close(&mut self) {
+        self.closed = true;
     }
 
     pub fn hit(&mut self, case: Case, way: Way) {
-        self.counts[case as usize][way as usize] += 1;
+        self.counts[case as usize][way as usize] += !self.closed as u64;
     }
 
     pub fn value(&mut self, place: Place, kind: u8) {
-        self.values[place as usize][kind as usize] += 1;
+        self.values[place as usize][kind as usize] += !self.closed as u64;
     }
 
     pub fn add(&mut self, other: &Hits) {

@@ -42,7 +42,8 @@ impl Effort {
         self.remarks += REMARK * self.before as u64;
     }
 
-    /// All of it in names, with so many in each round beside.
+    /// All of it in names, with so many in each round beside; the command line asks for it.
+    #[allow(dead_code)]
     pub fn all(&self, names: u64) -> u64 {
         let round = self.names.saturating_add(names);
         self.rounds.saturating_mul(round).saturating_add(self.remarks)

@@ -146,6 +146,7 @@ impl State {
         }
         if self.remarks.len() as u64 >= self.records {
             self.full = true;
+            self.hits.close();
             return Ok(());
         }
         self.hits.hit(Case::Noted, Way::Written);
