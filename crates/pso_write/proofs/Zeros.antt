@@ -1,10 +1,10 @@
 -- Records that become zero, one after the other.
-use mathlib.Core.Path.{◌≡◌, refl, sym, ap, ◌∙◌}
+use mathlib.Core.Path.{◌≡◌, sym, ap, ◌∙◌}
 use Prim.Native.Nat.{ℕ, ◌<◌, ◌≤◌, ◌+◌, ◌-◌}
-use native.Mathlib.Numerals.{add-one, add-one-le}
+use native.Mathlib.Numerals.{add-one}
 use native.Mathlib.Omega.{arith}
 use mathlib.Core.List.{[], ◌∷◌, ◌++◌, List, append_assoc, append-nil}
-use lib.ListN.{length, set, take, replicate, length-append, length-set, replicate-append-replicate}
+use lib.ListN.{length, set, take, replicate, length-append, replicate-append-replicate}
 use lib.Seq.{take_all, take-suc-set, length-take-le}
 use Rattle.layout.specs.Build.{zero_remark, filled}
 use Rattle.layout.specs.declared.Remark.{Remark}

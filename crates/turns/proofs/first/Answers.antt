@@ -1,7 +1,6 @@
 -- `turns::first` meets its contract. Assumes nothing.
 use mathlib.Core.Path.{subst, ◌∙◌}
 use lib.ListN.{length}
-use borrow.Author.Rules.{rules}
 use Rattle.rounds.specs.Merge.{Opens}
 use Rattle.turns.proofs.Endings.{begin_refused, begin_ready, begin_round}
 use Rattle.turns.proofs.first.Goals as goal

@@ -1,6 +1,5 @@
 -- `turns::last` meets its contract. Assumes nothing.
 use mathlib.Core.Path.{sym, subst}
-use borrow.Author.Rules.{rules}
 use Rattle.area.specs.Posts.{Safe}
 use Rattle.turns.proofs.Endings.{end_unused, end_wiped, some_fitting, end_file}
 use Rattle.turns.proofs.last.Goals as goal

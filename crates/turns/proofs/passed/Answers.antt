@@ -1,6 +1,5 @@
 -- `turns::passed` meets its contract. Assumes nothing.
 use mathlib.Core.Path.{sym, subst, ◌∙◌}
-use borrow.Author.Rules.{rules}
 use Rattle.turns.specs.Turns.{Passes}
 use Rattle.turns.proofs.Passing.{pass_next, pass_end, round_again, pass_round}
 use Rattle.turns.proofs.passed.Goals as goal

@@ -1,7 +1,6 @@
 -- `turns::step` meets its contract. Assumes nothing.
 use mathlib.Core.Path.{sym, ap, ◌∙◌}
 use native.Mathlib.Omega.{arith}
-use borrow.Author.Rules.{rules}
 use Rattle.layout.specs.State.{same_remark}
 use Rattle.turns.proofs.Turning.{step_found, step_next, fit_put, step_put}
 use Rattle.turns.proofs.step.Goals as goal

@@ -1,6 +1,5 @@
 -- `rounds::merge::job_of` meets its contract. Assumes nothing.
 use mathlib.Core.Path.{sym, ap}
-use borrow.Author.Rules.{rules}
 use Rattle.rounds.specs.Merge.{job_of}
 use Rattle.rounds.proofs.merge.job_of.Goals as goal
 

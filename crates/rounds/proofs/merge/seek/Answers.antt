@@ -1,5 +1,4 @@
 -- `rounds::merge::seek` meets its contract. Assumes nothing.
-use borrow.Author.Rules.{rules}
 use Rattle.rounds.proofs.Merges.{sought_before, sought_full, sought_behind}
 use Rattle.rounds.proofs.merge.seek.Goals as goal
 

@@ -2,7 +2,6 @@
 use mathlib.Core.Path.{sym, subst}
 use native.Mathlib.Omega.{arith}
 use lib.ListN.{length}
-use borrow.Author.Rules.{rules}
 use Rattle.rounds.specs.Merge.{Takes}
 use Rattle.rounds.proofs.Taking.{run_at, run_safe, take_some, take_none}
 use Rattle.rounds.proofs.merge.take_round.Goals as goal

@@ -1,6 +1,5 @@
 -- `rounds::opening::opened` meets its contract. Assumes nothing.
 use mathlib.Core.Path.{ap, ◌∙◌}
-use borrow.Author.Rules.{rules}
 use Rattle.sheet.specs.Answer.{number_of}
 use Rattle.rounds.proofs.Openings.{sheet_bad, sheet_good, opens}
 use Rattle.rounds.proofs.opening.opened.Goals as goal

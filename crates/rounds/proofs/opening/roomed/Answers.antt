@@ -1,6 +1,5 @@
 -- `rounds::opening::roomed` meets its contract. Assumes nothing.
 use native.Mathlib.Omega.{arith}
-use borrow.Author.Rules.{rules}
 use Rattle.rounds.proofs.Openings.{roomed_short, roomed_wide, cap_small, cap_large}
 use Rattle.rounds.proofs.opening.roomed.Goals as goal
 

@@ -1,6 +1,5 @@
 -- `rounds::opening::rooted` meets its contract. Assumes nothing.
 use mathlib.Core.Path.{ap, ◌∙◌}
-use borrow.Author.Rules.{rules}
 use Rattle.rounds.proofs.Openings.{root_found_law, root_unknown}
 use Rattle.rounds.proofs.opening.rooted.Goals as goal
 

@@ -1,6 +1,5 @@
 -- `rounds::opening::schemed` meets its contract. Assumes nothing.
 use mathlib.Core.Path.{◌∙◌}
-use borrow.Author.Rules.{rules}
 use Rattle.rounds.proofs.Openings.{schema_bad, schema_good}
 use Rattle.rounds.proofs.opening.schemed.Goals as goal
 

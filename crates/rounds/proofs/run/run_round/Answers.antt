@@ -1,15 +1,7 @@
-
 use Rattle.rounds.proofs.Roots.{begin_safe, root_def_law, root_refused, item_refused, item_laid}
 use Rattle.cells.specs.declared.defs.Def.{Def}
 use lib.ListN.{length}
 use native.Mathlib.Omega.{arith}
-use borrow.Author.Rules.{rules}
-use Rattle.rounds.proofs.run.run_round.Reads as reads
-use Rattle.rounds.proofs.run.run_round.Lts as lts
-use Rattle.area.proofs.items.lay.Reads as lay-reads
-use Rattle.rounds.proofs.run.begun.Reads as begun-reads
-use Rattle.definitions.proofs.members.read_head.Reads as read-head-reads
-use Rattle.writers.proofs.write.write_struct.Reads as write-struct-reads
 use Rattle.rounds.proofs.run.run_round.Goals as goal
 
 -- src/run.rt:58:11
