@@ -21,7 +21,7 @@ pub loop-k-preserved : goal.loop-k-preserved
 loop-k-preserved c =
     let a = c.args in (
       search rules,
-      seek_on a.work.now a.n a.name a.need c.loop-k.k c.loop-k-test.true c.loop-k.invariant.1 (λ g. rw (← c.read_u32-len.ensures) c.if-len-need-gt1048576.true),
+      seek_on a.work.now a.n a.name a.need c.loop-k.k c.loop-k-test.true c.loop-k.invariant.1 (λ g. rw (← c.read_u32-len.ensures) (omega arith)),
     )
 
 -- the block takes it
@@ -30,7 +30,7 @@ returns-in-loop-k c =
     let a = c.args in
     let z =
     seek_here a.work.now a.n a.name a.need c.loop-k.k c.loop-k-test.true c.loop-k.invariant.1 (sym c.read_u32.ensures ∙ c.if-read_u32-name.false)
-    (rw (← c.read_u32-len.ensures) c.if-len-need-gt1048576.false) in
+    (rw (← c.read_u32-len.ensures) (omega arith)) in
     record { before = omega arith; start = omega arith; is = (sym z.0, c.read_u32-len.ensures ∙ sym z.1) }
 
 -- no block takes it

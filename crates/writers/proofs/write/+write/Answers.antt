@@ -52,7 +52,7 @@ write_struct-loop-k-preserved-then-m-eq256 t c =
       refl,
       refl,
       writing_skip a.schema.now a.sheet.now a.round (length c.use_struct-q.new.work) (a.left - 1) a.d (fields_is a.sheet.now a.from) _ c.use_struct-q.new.work l.q l.work l.k i.3
-          c.read_member-m.result c.loop-k-test.true (nth_read a.schema.now a.d l.k c.read_member-m.result c.read_member-m.ensures c.loop-k-test.true) c.if-m-eq256.true,
+          c.read_member-m.result c.loop-k-test.true (nth_read a.schema.now a.d l.k c.read_member-m.result c.read_member-m.ensures c.loop-k-test.true) (omega arith),
     )
 
 pub write_struct-overflow_sub-left : goal.write_struct-overflow_sub-left
@@ -80,7 +80,7 @@ write_struct-returns-in-Refused-write_member t c =
     let i = c.loop-k.invariant in
     let e = entered a.schema.now a.round (length a.work.now) a.p a.work.now a.d c.in-Done.s c.use_struct-q.result c.use_struct-q.new.work c.requires (sym c.pay.ensures ∙ c.in-Done.is) c.use_struct-q.ensures.marks in
     writing_refused a.schema.now a.sheet.now a.round (length a.work.now) (a.left - 1) a.d (fields_is a.sheet.now a.from) _ c.use_struct-q.new.work l.q l.work l.k (rw c.work-1.given at i.3)
-    c.read_member-m.result c.value_of-v.result c.loop-k-test.true (nth_read a.schema.now a.d l.k c.read_member-m.result c.read_member-m.ensures c.loop-k-test.true) c.if-m-eq256.false c.value_of-v.ensures
+    c.read_member-m.result c.value_of-v.result c.loop-k-test.true (nth_read a.schema.now a.d l.k c.read_member-m.result c.read_member-m.ensures c.loop-k-test.true) (omega arith) c.value_of-v.ensures
     a.p a.work.now a.left c.requires (omega (arith, c.if-left-eq0.false)) refl e c.in-Refused-write_member.e c.in-Refused-write_member.t _ (rw (i.0 ∙ c.work-1.given, c.in-Refused-write_member.is) at c.write_member.ensures)
 
 pub write_struct-loop-k-preserved : goal.write_struct-loop-k-preserved
@@ -92,7 +92,7 @@ write_struct-loop-k-preserved t c =
       refl,
       refl,
       writing_turn a.schema.now a.sheet.now a.round (length c.use_struct-q.new.work) (a.left - 1) a.d (fields_is a.sheet.now a.from) _ c.use_struct-q.new.work l.q l.work l.k i.3
-          c.read_member-m.result c.value_of-v.result c.loop-k-test.true (nth_read a.schema.now a.d l.k c.read_member-m.result c.read_member-m.ensures c.loop-k-test.true) c.if-m-eq256.false c.value_of-v.ensures
+          c.read_member-m.result c.value_of-v.result c.loop-k-test.true (nth_read a.schema.now a.d l.k c.read_member-m.result c.read_member-m.ensures c.loop-k-test.true) (omega arith) c.value_of-v.ensures
           c.in-Done-write_member.t _ (rw (i.0, c.in-Done-write_member.is) at c.write_member.ensures),
     )
 
