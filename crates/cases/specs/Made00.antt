@@ -1,12 +1,9 @@
 -- Cases 0 to 19.
-use Rattle.std.specs.Prelude.{ℕ, ◌≡◌, refl, true, List, [], ◌∷◌, ◌++◌}
+use Rattle.std.specs.Prelude.{◌≡◌, refl, [], ◌∷◌, ◌++◌}
 use Rattle.numbers.specs.Words.{Bytes, words}
-use Rattle.numbers.specs.Result.{Result, ok, refused, map_result}
-use Rattle.pso.specs.Reader.{Pso, parse_pso}
-use Rattle.layout.specs.Build.{Built, layout, build}
-use Rattle.layout.specs.Demand3.{read_back}
+use Rattle.numbers.specs.Result.{ok, refused}
+use Rattle.layout.specs.Build.{build}
 use Rattle.layout.specs.Eval
-use Rattle.cases.specs.Check
 
 T0 : Bytes
 T0 = words (0x1 ∷ 0x15000000 ∷ 0x0 ∷ 0x50DC ∷ 0x1 ∷ 0x0 ∷ 0x0 ∷ [])

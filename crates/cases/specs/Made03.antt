@@ -1,12 +1,9 @@
 -- Cases 60 to 79.
-use Rattle.std.specs.Prelude.{ℕ, ◌≡◌, refl, true, List, [], ◌∷◌, ◌++◌}
+use Rattle.std.specs.Prelude.{◌≡◌, refl, [], ◌∷◌, ◌++◌}
 use Rattle.numbers.specs.Words.{Bytes, words}
-use Rattle.numbers.specs.Result.{Result, ok, refused, map_result}
-use Rattle.pso.specs.Reader.{Pso, parse_pso}
-use Rattle.layout.specs.Build.{Built, layout, build}
-use Rattle.layout.specs.Demand3.{read_back}
+use Rattle.numbers.specs.Result.{ok, refused}
+use Rattle.layout.specs.Build.{build}
 use Rattle.layout.specs.Eval
-use Rattle.cases.specs.Check
 
 T60 : Bytes
 T60 = words (0x4 ∷ 0x15000000 ∷ 0x0 ∷ 0x5000 ∷ 0x1 ∷ 0x3 ∷ 0x0 ∷ 0x9000000 ∷ 0x41 ∷ 0x20A30C5 ∷ 0xD331F844 ∷ 0x0 ∷ 0x0 ∷ 0xF000000 ∷ 0x43 ∷ 0x0 ∷ 0x8 ∷ 0x0 ∷ 0x0 ∷ 0x11000000 ∷ 0x42 ∷ 0x4E1EC83A ∷ 0x0 ∷ 0x0 ∷ 0x0 ∷ 0xC0B0B69 ∷ 0x6E665F09 ∷ [])

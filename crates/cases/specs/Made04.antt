@@ -1,12 +1,9 @@
 -- Cases 80 to 99.
-use Rattle.std.specs.Prelude.{ℕ, ◌≡◌, refl, true, List, [], ◌∷◌, ◌++◌}
+use Rattle.std.specs.Prelude.{◌≡◌, refl, [], ◌∷◌, ◌++◌}
 use Rattle.numbers.specs.Words.{Bytes, words}
-use Rattle.numbers.specs.Result.{Result, ok, refused, map_result}
-use Rattle.pso.specs.Reader.{Pso, parse_pso}
-use Rattle.layout.specs.Build.{Built, layout, build}
-use Rattle.layout.specs.Demand3.{read_back}
+use Rattle.numbers.specs.Result.{ok, refused}
+use Rattle.layout.specs.Build.{build}
 use Rattle.layout.specs.Eval
-use Rattle.cases.specs.Check
 
 T80 : Bytes
 T80 = words (0x6 ∷ 0x15000000 ∷ 0x0 ∷ 0x5000 ∷ 0x1 ∷ 0x5 ∷ 0x0 ∷ 0x7000000 ∷ 0x43 ∷ 0x40001 ∷ 0x0 ∷ 0x0 ∷ 0x0 ∷ 0xA000000 ∷ 0x41 ∷ 0x7F800001 ∷ 0x0 ∷ 0x0 ∷ 0x0 ∷ 0x15000000 ∷ 0x42 ∷ 0x5000 ∷ 0x6 ∷ 0x0 ∷ 0x0 ∷ 0x8000000 ∷ 0x43 ∷ 0x20000 ∷ 0x1 ∷ 0x0 ∷ 0x0 ∷ 0x2000000 ∷ 0x44 ∷ 0x0 ∷ 0x0 ∷ 0x0 ∷ 0x0 ∷ [])

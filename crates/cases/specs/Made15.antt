@@ -1,12 +1,9 @@
 -- Cases 300 to 319.
-use Rattle.std.specs.Prelude.{ℕ, ◌≡◌, refl, true, List, [], ◌∷◌, ◌++◌}
+use Rattle.std.specs.Prelude.{◌≡◌, refl, [], ◌∷◌, ◌++◌}
 use Rattle.numbers.specs.Words.{Bytes, words}
-use Rattle.numbers.specs.Result.{Result, ok, refused, map_result}
-use Rattle.pso.specs.Reader.{Pso, parse_pso}
-use Rattle.layout.specs.Build.{Built, layout, build}
-use Rattle.layout.specs.Demand3.{read_back}
+use Rattle.numbers.specs.Result.{ok, refused}
+use Rattle.layout.specs.Build.{build}
 use Rattle.layout.specs.Eval
-use Rattle.cases.specs.Check
 
 T300 : Bytes
 T300 = words (0x5 ∷ 0x15000000 ∷ 0x0 ∷ 0x5000 ∷ 0x1 ∷ 0x3 ∷ 0x0 ∷ 0xB000000 ∷ 0x41 ∷ 0x25DB9F72 ∷ 0x0 ∷ 0x0 ∷ 0x0 ∷ 0x6000000 ∷ 0x42 ∷ 0x3FFFFF ∷ 0x0 ∷ 0x0 ∷ 0x0 ∷ 0x13000000 ∷ 0x43 ∷ 0x4 ∷ 0x1 ∷ 0x0 ∷ 0x0 ∷ 0x5000000 ∷ 0x0 ∷ 0xA592 ∷ 0x0 ∷ 0x0 ∷ 0x0 ∷ [])

@@ -1,12 +1,9 @@
 -- Files for the reader 20 to 39.
-use Rattle.std.specs.Prelude.{ℕ, ◌≡◌, refl, true, List, [], ◌∷◌, ◌++◌}
+use Rattle.std.specs.Prelude.{◌≡◌, refl, [], ◌∷◌, ◌++◌}
 use Rattle.numbers.specs.Words.{Bytes, words}
-use Rattle.numbers.specs.Result.{Result, ok, refused, map_result}
-use Rattle.pso.specs.Reader.{Pso, parse_pso}
-use Rattle.layout.specs.Build.{Built, layout, build}
-use Rattle.layout.specs.Demand3.{read_back}
+use Rattle.numbers.specs.Result.{ok, refused}
+use Rattle.pso.specs.Reader.{parse_pso}
 use Rattle.layout.specs.Eval
-use Rattle.cases.specs.Check
 
 F20 : Bytes
 F20 = words (0x5053494E ∷ 0x14 ∷ []) ++ (1 ∷ 198 ∷ [])

@@ -1,12 +1,9 @@
 -- Files for the reader 40 to 59.
-use Rattle.std.specs.Prelude.{ℕ, ◌≡◌, refl, true, List, [], ◌∷◌, ◌++◌}
+use Rattle.std.specs.Prelude.{◌≡◌, refl, [], ◌∷◌, ◌++◌}
 use Rattle.numbers.specs.Words.{Bytes, words}
-use Rattle.numbers.specs.Result.{Result, ok, refused, map_result}
-use Rattle.pso.specs.Reader.{Pso, parse_pso}
-use Rattle.layout.specs.Build.{Built, layout, build}
-use Rattle.layout.specs.Demand3.{read_back}
+use Rattle.numbers.specs.Result.{ok, refused}
+use Rattle.pso.specs.Reader.{parse_pso}
 use Rattle.layout.specs.Eval
-use Rattle.cases.specs.Check
 
 F40 : Bytes
 F40 = words (0x5053494E ∷ 0x2B ∷ 0x0 ∷ 0x0 ∷ 0x1FFFFF ∷ 0x0 ∷ 0x0 ∷ 0x0 ∷ 0x0 ∷ 0x0 ∷ 0x50 ∷ 0x4D415000 ∷ 0x2000 ∷ 0x100 ∷ 0x1707000 ∷ 0x500000 ∷ 0x1000 ∷ 0x0 ∷ 0x1B50 ∷ 0x53434800 ∷ 0x2C00 ∷ 0x100 ∷ 0x500000 ∷ 0x1400 ∷ 0x100 ∷ 0x1B00 ∷ 0x0 ∷ 0x4105 ∷ 0x7200001C ∷ []) ++ (109 ∷ 225 ∷ 181 ∷ [])

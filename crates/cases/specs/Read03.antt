@@ -1,12 +1,9 @@
 -- Files for the reader 60 to 79.
-use Rattle.std.specs.Prelude.{ℕ, ◌≡◌, refl, true, List, [], ◌∷◌, ◌++◌}
+use Rattle.std.specs.Prelude.{◌≡◌, refl, [], ◌∷◌, ◌++◌}
 use Rattle.numbers.specs.Words.{Bytes, words}
-use Rattle.numbers.specs.Result.{Result, ok, refused, map_result}
-use Rattle.pso.specs.Reader.{Pso, parse_pso}
-use Rattle.layout.specs.Build.{Built, layout, build}
-use Rattle.layout.specs.Demand3.{read_back}
+use Rattle.numbers.specs.Result.{ok, refused}
+use Rattle.pso.specs.Reader.{parse_pso}
 use Rattle.layout.specs.Eval
-use Rattle.cases.specs.Check
 
 F60 : Bytes
 F60 = words (0x5053494E ∷ 0x10 ∷ 0x0 ∷ 0x0 ∷ 0x504D4150 ∷ 0x20 ∷ 0x1 ∷ 0x17070 ∷ 0x46FD8659 ∷ 0x10 ∷ 0x0 ∷ 0x0 ∷ 0x50534348 ∷ 0x38 ∷ 0x1 ∷ 0x46FD8659 ∷ 0x0 ∷ 0x0 ∷ 0x50534348 ∷ 0x38 ∷ 0x1 ∷ 0x46FD8659 ∷ 0x14 ∷ 0xEF0002 ∷ 0xFF0000 ∷ 0x0 ∷ 0x100 ∷ 0xE01E909 ∷ 0xF ∷ 0x41 ∷ []) ++ (13 ∷ [])

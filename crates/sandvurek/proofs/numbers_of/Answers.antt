@@ -1,5 +1,4 @@
 -- `sandvurek::numbers_of` meets its contract. Assumes nothing.
-use borrow.Author.Rules.{rules}
 use Rattle.sandvurek.proofs.numbers_of.Goals as goal
 
 pub returns-in-Found : goal.returns-in-Found

@@ -1,5 +1,4 @@
 -- `sandvurek::outcome_of` meets its contract. Assumes nothing.
-use borrow.Author.Rules.{rules}
 use Rattle.sandvurek.proofs.outcome_of.Goals as goal
 
 pub returns-in-File : goal.returns-in-File

@@ -1,6 +1,5 @@
 -- `sandvurek::sandvurek_block` meets its contract. Assumes nothing.
 use Rattle.sandvurek.proofs.Told.{block_told}
-use borrow.Author.Rules.{rules}
 use Rattle.sandvurek.proofs.sandvurek_block.Goals as goal
 
 pub returns-in-Found : goal.returns-in-Found

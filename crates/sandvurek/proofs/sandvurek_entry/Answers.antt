@@ -1,7 +1,6 @@
 -- `sandvurek::sandvurek_entry` meets its contract. Assumes nothing.
 use mathlib.Core.Path.{ap}
 use Rattle.sandvurek.specs.Exports.{entry_is}
-use borrow.Author.Rules.{rules}
 use Rattle.sandvurek.proofs.sandvurek_entry.Goals as goal
 
 pub returns : goal.returns

@@ -2,7 +2,6 @@
 use mathlib.Core.Path.{ap, ◌∙◌}
 use Rattle.sandvurek.specs.Exports.{definition_is}
 use Rattle.sandvurek.proofs.Looked.{enum_told}
-use borrow.Author.Rules.{rules}
 use Rattle.sandvurek.proofs.sandvurek_enum.Goals as goal
 
 pub returns : goal.returns

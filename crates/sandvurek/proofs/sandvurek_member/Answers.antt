@@ -1,5 +1,4 @@
 -- `sandvurek::sandvurek_member` meets its contract. Assumes nothing.
-use borrow.Author.Rules.{rules}
 use Rattle.sandvurek.proofs.sandvurek_member.Goals as goal
 
 pub returns : goal.returns

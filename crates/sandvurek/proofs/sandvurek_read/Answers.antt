@@ -1,6 +1,5 @@
 -- `sandvurek::sandvurek_read` meets its contract. Assumes nothing.
 use Rattle.sandvurek.proofs.Told.{reading_told}
-use borrow.Author.Rules.{rules}
 use Rattle.sandvurek.proofs.sandvurek_read.Goals as goal
 
 pub returns-in-Pso : goal.returns-in-Pso
