@@ -197,5 +197,5 @@ pub fn cases(seed: u64, builds: usize, laws: usize, reads: usize, dir: &str) -> 
     println!("{} of demand 3, {} files for the reader", laws.len(), reads.len());
     fs::write(dir.join("Texts.antt"), crate::antt_texts::texts(seed + 3))?;
     let list: String = modules.iter().map(|m| format!("pub mod {m}\n")).collect();
-    fs::write(dir.join("Lib.antt"), format!("-- Worked cases, closed by evaluation. Made, Laws, Read and Texts are written by\n-- `differential/run record cases {seed} crates/cases/specs`, then `rt fmt`.\n{list}"))
+    fs::write(dir.join("Lib.antt"), format!("-- Worked cases, closed by evaluation. Made, Laws, Read and Texts are written by\n-- `differential/run record cases {seed} crates/cases/specs`, then `rt tidy`.\n{list}"))
 }

@@ -1,5 +1,5 @@
 -- Worked cases, closed by evaluation. Made, Laws, Read and Texts are written by
--- `differential/run record cases 4242 crates/cases/specs`, then `rt fmt`.
+-- `differential/run record cases 4242 crates/cases/specs`, then `rt tidy`.
 pub mod Check
 pub mod Records
 pub mod Texts
