@@ -265,6 +265,8 @@ fn vector_stride(n: usize) -> u32
 }
 
 // The n rows from `first` on as elements that lead to no structure, as x describes them; structures are left to their writers.
+// Inlined there, its variables would stand on the machine's stack at each depth.
+#[inline(never)]
 pub fn plain_element_run(
     sheet: &[u8],
     schema: &[u8],
