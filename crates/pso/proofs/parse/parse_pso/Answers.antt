@@ -5,13 +5,17 @@ use Rattle.pso.proofs.Sight.{first, no_name, bad_name, parse_end, parse_broken, 
 use Rattle.pso.proofs.Place.{placed_first, placed_turn, refusal_is, answer_is}
 use Rattle.pso.proofs.parse.parse_pso.Goals as goal
 
+-- the two facts of one answer
+both : {P Q : Type 0} → P × Q → record { file_value : P; value : Q }
+both w = record { file_value = w.0; value = w.1 }
+
 pub returns-then-file-lt4 : goal.returns-then-file-lt4
 returns-then-file-lt4 c =
-    record { file_value = (refusal_is c.args.file.now 15 (no_name c.args.file.now c.if-file-lt4.true)).0; value = (refusal_is c.args.file.now 15 (no_name c.args.file.now c.if-file-lt4.true)).1 }
+    both (refusal_is c.args.file.now 15 (no_name c.args.file.now c.if-file-lt4.true))
 
 pub returns-then-not-is_name : goal.returns-then-not-is_name
 returns-then-not-is_name c =
-    record { file_value = (refusal_is c.args.file.now 15 (bad_name c.args.file.now c.if-file-lt4.false c.is_name.result (c.is_name.ensures.number (omega arith)) c.if-not-is_name.true)).0; value = (refusal_is c.args.file.now 15 (bad_name c.args.file.now c.if-file-lt4.false c.is_name.result (c.is_name.ensures.number (omega arith)) c.if-not-is_name.true)).1 }
+    both (refusal_is c.args.file.now 15 (bad_name c.args.file.now c.if-file-lt4.false c.is_name.result (c.is_name.ensures.number (omega arith)) c.if-not-is_name.true))
 
 pub loop-body-init : goal.loop-body-init
 loop-body-init c =
@@ -22,27 +26,17 @@ returns-in-End c =
     let F = c.args.file.now in
     let l = c.loop-body in
     let t = ended F l.c.at c.step-q.result c.step-q.ensures c.in-End.is in
-    record {
-      file_value = (answer_is F l.c.at l.s l.invariant.3 t c.finish.result c.finish.ensures
-          (parse_end F c.if-file-lt4.false c.is_name.result (c.is_name.ensures.number (omega arith)) c.if-not-is_name.false l.c.at l.s l.invariant.2
-          t c.finish.result c.finish.ensures)).0;
-      value = (answer_is F l.c.at l.s l.invariant.3 t c.finish.result c.finish.ensures
-          (parse_end F c.if-file-lt4.false c.is_name.result (c.is_name.ensures.number (omega arith)) c.if-not-is_name.false l.c.at l.s l.invariant.2
-          t c.finish.result c.finish.ensures)).1;
-    }
+    both (answer_is F l.c.at l.s l.invariant.3 t c.finish.result c.finish.ensures
+    (parse_end F c.if-file-lt4.false c.is_name.result (c.is_name.ensures.number (omega arith)) c.if-not-is_name.false l.c.at l.s l.invariant.2
+    t c.finish.result c.finish.ensures))
 
 pub returns-in-Broken : goal.returns-in-Broken
 returns-in-Broken c =
     let F = c.args.file.now in
     let l = c.loop-body in
-    record {
-      file_value = (refusal_is F 4
-          (parse_broken F c.if-file-lt4.false c.is_name.result (c.is_name.ensures.number (omega arith)) c.if-not-is_name.false l.c.at l.s l.invariant.2
-          (broke F l.c.at c.step-q.result c.step-q.ensures c.in-Broken.is))).0;
-      value = (refusal_is F 4
-          (parse_broken F c.if-file-lt4.false c.is_name.result (c.is_name.ensures.number (omega arith)) c.if-not-is_name.false l.c.at l.s l.invariant.2
-          (broke F l.c.at c.step-q.result c.step-q.ensures c.in-Broken.is))).1;
-    }
+    both (refusal_is F 4
+    (parse_broken F c.if-file-lt4.false c.is_name.result (c.is_name.ensures.number (omega arith)) c.if-not-is_name.false l.c.at l.s l.invariant.2
+    (broke F l.c.at c.step-q.result c.step-q.ensures c.in-Broken.is)))
 
 pub see-w-requires : goal.see-w-requires
 see-w-requires c =
@@ -55,10 +49,9 @@ returns-in-Refused c =
     let F = c.args.file.now in
     let l = c.loop-body in
     let o = onward F l.c.at c.step-q.result c.step-q.ensures c.in-Section.place c.in-Section.len c.in-Section.next c.in-Section.is in
-    let r = refusal_is F c.in-Refused.n
+    both (refusal_is F c.in-Refused.n
     (parse_refused F c.if-file-lt4.false c.is_name.result (c.is_name.ensures.number (omega arith)) c.if-not-is_name.false l.c.at l.s l.invariant.2
-    c.in-Section.place c.in-Section.len c.in-Section.next.at c.see-w.result o.left c.see-w.ensures c.in-Refused.n c.in-Refused.is) in
-    record { file_value = r.0; value = r.1 }
+    c.in-Section.place c.in-Section.len c.in-Section.next.at c.see-w.result o.left c.see-w.ensures c.in-Refused.n c.in-Refused.is))
 
 pub loop-body-smaller : goal.loop-body-smaller
 loop-body-smaller c =
