@@ -59,6 +59,9 @@ down k h = ap (λ (z : ℤ). negsuc 0 -ℤ z) (to_z_pos w64 h) ∙ minus_one k w
 pub down_read : (k : ℕ) → k < 2 ^ 63 → to_z w64 (of_z w64 (negsuc 0 -ℤ to_z w64 k)) ≡ negsuc k
 down_read k h = ap (λ (z : ℤ). to_z w64 (of_z w64 z)) (down k h) ∙ to_z-of_z {w = w64} {z = negsuc k} (record { sfits = h })
 
+pub down_fits : (k : ℕ) → k < 2 ^ 63 → SFits w64 (negsuc 0 -ℤ to_z w64 k)
+down_fits k h = rw (down k h) (record { sfits = h })
+
 -- the upper half, over the width
 pub to_z_high : (w : Width) (v k : ℕ) → 2 ^ hbits w ≤ v → k ≡ 2 ^ bits w - suc v → negsuc k ≡ to_z w v
 to_z_high w v k h e = rw (le-ltb v (2 ^ hbits w) h) (ap negsuc e)
@@ -80,3 +83,14 @@ signed32 v g = signs (2 ^ 32) (2 ^ 31) v g (ltb v (2 ^ 31)) refl
 pub word64 : (x : ℤ) → SFits w64 x → of_z w64 x ≡ word_of 64 x
 word64 (pos n) s = let h : n < 2 ^ 63 = s.sfits in omega arith
 word64 (negsuc n) s = let h : n < 2 ^ 63 = s.sfits in omega arith
+
+-- ---- 32 bits as the machine computes them
+
+pub signed32_low : (v : ℕ) → v < 2 ^ 31 → to_z w64 v ≡ signed_of 32 v
+signed32_low v g =
+    let h : v < 2 ^ 63 = omega arith in
+    to_z_pos w64 h ∙ sym (to_z_pos w32 g) ∙ signed32 v (omega arith)
+
+pub signed32_high : (v : ℕ) → 2 ^ 31 ≤ v → v < 2 ^ 32 → to_z w64 (of_z w64 (negsuc 0 -ℤ to_z w64 (2 ^ 32 - 1 - v))) ≡ signed_of 32 v
+signed32_high v g h =
+    down_read (2 ^ 32 - 1 - v) (omega arith) ∙ to_z_high w32 v _ g (omega arith) ∙ signed32 v h

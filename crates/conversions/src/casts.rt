@@ -25,6 +25,7 @@ pub fn bits_of_i64(x: i64) -> u64
 }
 
 // 32 bits as a signed number: what `a as i32 as i64` is in Rust.
+#[tactic(auto, using(crate::proofs::Signs::down_fits, crate::proofs::Signs::signed32_low, crate::proofs::Signs::signed32_high))]
 pub fn i64_of_bits32(a: u32) -> i64
     ensures { result ≡ signed_of 32 a }
 {

@@ -17,6 +17,7 @@ pub fn magnitude(x: i64) -> u64
 }
 
 // n / 2^40 to the nearest whole number, and at a tie to the even one.
+#[tactic(auto, unfolding(crate::specs::Round::round40))]
 fn round_even(n: u64) -> u64
     ensures { result ≡ round40 n }
 {
@@ -73,6 +74,7 @@ fn whole_of(p: u32) -> u64
 }
 
 // The f32 with the pattern b as an i64: toward zero, at the nearer end where it lies outside; 0 for a NaN.
+#[tactic(auto, using(crate::proofs::Trunc::i64_of_nan))]
 pub fn i64_of_f32(b: u32) -> i64
     ensures { result ≡ i64_of b }
 {

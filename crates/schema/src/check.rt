@@ -59,6 +59,7 @@ pub enum Checked {
 }
 
 // A PSCH section.
+#[tactic(auto, using(crate::proofs::Counts::psch_short))]
 pub fn check_psch(p: &[u8]) -> Checked
     ensures { result ≡ checked_is (map_result length (psch_of p.now)) }
 {

@@ -2,15 +2,10 @@
 use mathlib.Core.Path.{sym, ap, ◌∙◌}
 use native.Mathlib.Nat.{add-zero, sub-zero}
 use native.Mathlib.Omega.{arith}
-use borrow.Author.Tests.{ne_eqb}
 use Rattle.value.specs.Rows
 use Rattle.value.specs.Answer
 use Rattle.value.proofs.Laws
 use Rattle.value.proofs.field_named.Goals as goal
-
-pub returns-then-k-ne21 : goal.returns-then-k-ne21
-unfolding Rows.fields_of Rows.field_named
-returns-then-k-ne21 c = rw (ne_eqb _ _ c.if-k-ne21.true)
 
 pub loop-i-init : goal.loop-i-init
 unfolding Rows.fields_of Rows.field_named
@@ -22,7 +17,7 @@ returns-then-name_of-name c =
     let a = c.args in
     ap Answer.found_is
     (sym (Laws.named_here a.sheet.now a.name c.first_child-first.result c.child_count-n.result c.loop-i.i c.loop-i-test.true (sym c.name_of.ensures ∙ c.if-name_of-name.true))
-    ∙ c.loop-i.invariant.1 ∙ sym (ap (Rows.field_named a.name) (Laws.members_are c.args.sheet.now c.args.v c.first_child-first.result c.child_count-n.result c.if-k-ne21.false c.first_child-first.ensures.0 c.child_count-n.ensures.0)))
+    ∙ c.loop-i.invariant.1 ∙ sym (ap (Rows.field_named a.name) (Laws.members_are c.args.sheet.now c.args.v c.first_child-first.result c.child_count-n.result (omega arith) c.first_child-first.ensures.0 c.child_count-n.ensures.0)))
 
 pub loop-i-preserved : goal.loop-i-preserved
 unfolding Rows.fields_of Rows.field_named
@@ -39,4 +34,4 @@ returns c =
     let a = c.args in
     ap Answer.found_is
     (sym (Laws.named_none a.sheet.now a.name c.first_child-first.result c.child_count-n.result c.loop-i.i c.loop-i-test.false)
-    ∙ c.loop-i.invariant.1 ∙ sym (ap (Rows.field_named a.name) (Laws.members_are c.args.sheet.now c.args.v c.first_child-first.result c.child_count-n.result c.if-k-ne21.false c.first_child-first.ensures.0 c.child_count-n.ensures.0)))
+    ∙ c.loop-i.invariant.1 ∙ sym (ap (Rows.field_named a.name) (Laws.members_are c.args.sheet.now c.args.v c.first_child-first.result c.child_count-n.result (omega arith) c.first_child-first.ensures.0 c.child_count-n.ensures.0)))

@@ -8,7 +8,7 @@ use mir.Val.{of_z, to_z}
 use mir.Facts.{to_z_pos}
 use Rattle.conversions.specs.Single.{low, inf}
 use Rattle.conversions.specs.Trunc.{whole, i64_of}
-use Rattle.conversions.proofs.Trunc.{whole_under, whole_over, i64_of_nan, i64_of_plus, i64_of_minus, sfits_neg, minus_is_law, minus_read}
+use Rattle.conversions.proofs.Trunc.{whole_under, whole_over, i64_of_plus, i64_of_minus, sfits_neg, minus_is_law, minus_read}
 use Rattle.conversions.proofs.single.i64_of_f32.Goals as goal
 
 small : (p r : ℕ) → r ≡ whole p → p < 190 * 2 ^ 23 → r < 2 ^ 63
@@ -38,16 +38,13 @@ module _ (b : ℕ) (n : low b ≤ inf) where
       let m : 2 ^ 63 ≡ min (whole (low b)) (2 ^ 63) = omega (arith, whole_over (low b) l) in
       ap (λ (x : ℕ). neg_ℤ (pos x)) m ∙ sym (i64_of_minus b n h)
 
-pub returns-then-p-gt2139095040 : goal.returns-then-p-gt2139095040
-returns-then-p-gt2139095040 c = i64_of_nan c.args.b c.if-p-gt2139095040.true
-
 pub overflow_cast-result : goal.overflow_cast-result
 overflow_cast-result c = record { sfits = small _ _ c.whole_of.ensures (omega arith) }
 
 pub returns-then-p-lt1593835520 : goal.returns-then-p-lt1593835520
 returns-then-p-lt1593835520 c =
     let b = c.args.b in
-    plus b _ c.if-p-gt2139095040.false c.if-b-lt2147483648.true (omega arith) c.whole_of.ensures
+    plus b _ (omega arith) c.if-b-lt2147483648.true (omega arith) c.whole_of.ensures
 
 pub overflow_cast-result-then-p-lt1593835520-2 : goal.overflow_cast-result-then-p-lt1593835520-2
 overflow_cast-result-then-p-lt1593835520-2 c = record { sfits = small _ _ c.whole_of-then-p-lt1593835520-2.ensures (omega arith) }
@@ -59,14 +56,14 @@ overflow_sub-result c =
 pub returns-then-p-lt1593835520-2 : goal.returns-then-p-lt1593835520-2
 returns-then-p-lt1593835520-2 c =
     let b = c.args.b in
-    minus b _ c.if-p-gt2139095040.false c.if-b-lt2147483648.false (omega arith) c.whole_of-then-p-lt1593835520-2.ensures
+    minus b _ (omega arith) c.if-b-lt2147483648.false (omega arith) c.whole_of-then-p-lt1593835520-2.ensures
 
 pub returns-else-p-lt1593835520 : goal.returns-else-p-lt1593835520
 returns-else-p-lt1593835520 c =
     let b = c.args.b in
-    plus_end b c.if-p-gt2139095040.false c.if-b-lt2147483648.true (omega arith)
+    plus_end b (omega arith) c.if-b-lt2147483648.true (omega arith)
 
 pub returns-else-p-lt1593835520-2 : goal.returns-else-p-lt1593835520-2
 returns-else-p-lt1593835520-2 c =
     let b = c.args.b in
-    minus_end b c.if-p-gt2139095040.false c.if-b-lt2147483648.false (omega arith)
+    minus_end b (omega arith) c.if-b-lt2147483648.false (omega arith)

@@ -1,19 +1,16 @@
 -- `schema::check::check_psch` meets its contract. Assumes nothing.
 use mathlib.Core.Path.{sym, ◌∙◌}
 use native.Mathlib.Omega.{arith}
-use Rattle.schema.proofs.Counts.{psch_short, psch_past, begin, turn, stop, finish}
+use Rattle.schema.proofs.Counts.{psch_past, begin, turn, stop, finish}
 use Rattle.schema.proofs.check.check_psch.Goals as goal
-
-pub returns-then-p-lt12 : goal.returns-then-p-lt12
-returns-then-p-lt12 c = psch_short c.args.p.now c.if-p-lt12.true
 
 pub returns-then-beyond : goal.returns-then-beyond
 returns-then-beyond c =
-    psch_past c.args.p.now c.read_u32-n.result c.if-p-lt12.false c.read_u32-n.ensures (sym c.beyond.ensures ∙ c.if-beyond.true)
+    psch_past c.args.p.now c.read_u32-n.result (omega arith) c.read_u32-n.ensures (sym c.beyond.ensures ∙ c.if-beyond.true)
 
 pub loop-i-init : goal.loop-i-init
 loop-i-init c =
-    (omega arith, begin c.args.p.now c.read_u32-n.result c.if-p-lt12.false c.read_u32-n.ensures (sym c.beyond.ensures ∙ c.if-beyond.false))
+    (omega arith, begin c.args.p.now c.read_u32-n.result (omega arith) c.read_u32-n.ensures (sym c.beyond.ensures ∙ c.if-beyond.false))
 
 pub returns-then-kind-gt1 : goal.returns-then-kind-gt1
 returns-then-kind-gt1 c =
