@@ -46,7 +46,10 @@ array_value T S R v blank t u a b c =
     or_grouped (eqb v.kind 19) (eqb v.kind 0) (eqb v.kind 15 && blank)
     ∙ ap (λ (x : Bool). eqb v.kind 19 || eqb v.kind 0 || (eqb v.kind 15 && x)) (a ∙ ap (λ (x : Bytes). is_empty x) (b ∙ ap trimmed c))
 
--- what is no array has no items
+-- an array has its items, and what is none has none
+pub items_all : (v : Row) → v.kind ≡ 19 → v.b ≡ item_count v
+items_all v h = rw h refl
+
 pub items_none : (v : Row) → (v.kind ≡ 19 → ⊥) → 0 ≡ item_count v
 items_none v h = ap (λ (x : Bool). cond x v.b 0) (sym (ne_eqb v.kind 19 h))
 

@@ -71,6 +71,7 @@ pub fn array_info(schema: &[u8], d: Def, m: Member) -> Info
 }
 
 // How many items an array has.
+#[tactic(auto, using(crate::proofs::Choosing::items_all, crate::proofs::Choosing::items_none))]
 pub fn item_count(v: Row) -> u32
     ensures { result ≡ item_count v }
 {

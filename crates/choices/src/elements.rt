@@ -15,6 +15,7 @@ use members::say;
 use value::read_row;
 
 // Remark 9, where the row is neither Struct nor Null; of a map's pairs there is none.
+#[tactic(auto, using(crate::proofs::NinthRemark::null_not_noted))]
 pub fn element_note(
     sheet: &[u8],
     work: &mut [u8],

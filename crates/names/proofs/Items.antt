@@ -47,6 +47,10 @@ module _ (levels m : ℕ) (el : levels ≡ suc m) (T : Bytes) (es : Names.Entrie
       unfolding Names.flags_bits Names.flags_body Rows.children_of
       flags_items f c e pf pc = rw (el, ne_eqb v.kind 17 n17, ne_eqb v.kind 15 n15, eq-eqb v.kind 19 e, pf, pc)
 
+-- a Flags row, with a level left
+pub flags_kept : (levels : ℕ) (T : Bytes) (es : Names.Entries) (v : Rows.Row) → (levels ≡ 0 → ⊥) → v.kind ≡ 17 → B.Fits v.a ≡ bits_is (Names.flags_bits levels T es v)
+flags_kept levels T es v n e = flags_own levels (levels - 1) (omega arith) T es v e
+
 module _ (m : ℕ) (T : Bytes) (es : Names.Entries) (f c i bits : ℕ) (y : Bits) (it : Rows.Row) (h : i < c)
     (pi : it ≡ Rows.row T (f + i)) (py : y ≡ bits_is (Names.flags_bits m T es it)) where
   this : y ≡ bits_is (Names.flags_bits m T es (Rows.row T (f + i)))

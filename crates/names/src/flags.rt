@@ -74,6 +74,7 @@ fn flag_text(schema: &[u8], at: usize, n: usize, t: &[u8]) -> Bits
 }
 
 // A row as flag bits, with so many levels of arrays left.
+#[tactic(auto, using(crate::proofs::Items::flags_kept))]
 pub fn flags_bits(sheet: &[u8], schema: &[u8], at: usize, n: usize, levels: usize, v: Row) -> Bits
     requires { (at < 2 ^ 63) × (n < 2 ^ 24) }
     ensures { result ≡ bits_is (Names.flags_bits levels sheet.now (entries_at schema.now n at) v) }

@@ -234,3 +234,12 @@ module _ (F w : Bytes) (e : Bool) (names count : ℕ) where
               same = ap (λ (x : Bytes). over (over x j I) at' J) eo
                   ∙ over_both o i j at at' W I B J (omega (arith, lw)) (sym ea) (omega (arith, li, fits, h, p.behind)) (omega (arith, ea, ends_at, room, p.long)) ∙ s ∙ p.same;
             }
+
+-- the same, with the words of the contract
+pub long_counts : (F w : Bytes) (e : Bool) (names count from sum k : ℕ) → Summing F w e names count from sum k → 16777216 < sum
+    → Counts sum (from + size_of (records_for F e (names_in w names count)))
+long_counts F w e names count from sum k s h = (sum_long F w e names count from sum k s h).0
+
+pub long_same : (F w : Bytes) (e : Bool) (names count from sum k : ℕ) → Summing F w e names count from sum k → 16777216 < sum
+    → sum ≡ counted_from F e from (names_in w names count)
+long_same F w e names count from sum k s h = (sum_long F w e names count from sum k s h).2

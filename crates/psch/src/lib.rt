@@ -52,6 +52,7 @@ fn body_length(schema: &[u8], enums: bool, name: u32) -> usize
 }
 
 // What the definitions of the `count` names at `names` take in PSCH, added to `from`; no further than to 16,777,216.
+#[tactic(auto, using(crate::proofs::Listing::long_counts, crate::proofs::Listing::long_same))]
 pub fn definitions_length(
     schema: &[u8],
     work: &[u8],

@@ -1,18 +1,12 @@
 -- `psch::definitions_length` meets its contract. Assumes nothing.
 use native.Mathlib.Omega.{arith}
-use Rattle.psch.proofs.Listing.{sum_begin, sum_turn, sum_long, sum_last}
+use Rattle.psch.proofs.Listing.{sum_begin, sum_turn, sum_last}
 use Rattle.psch.proofs.definitions_length.Goals as goal
 
 pub loop-k-init : goal.loop-k-init
 loop-k-init c =
     let a = c.args in
     sum_begin a.schema.now a.work.now a.enums a.names a.count a.from c.requires.1
-
-pub returns-then-sum-gt16777216 : goal.returns-then-sum-gt16777216
-returns-then-sum-gt16777216 c =
-    let a = c.args in
-    let l = c.loop-k in
-    sum_long a.schema.now a.work.now a.enums a.names a.count a.from l.sum l.k l.invariant c.if-sum-gt16777216.true
 
 pub overflow_mul-k : goal.overflow_mul-k
 overflow_mul-k c = omega (arith, c.requires, c.loop-k-test.true)
@@ -37,7 +31,7 @@ loop-k-preserved c =
     let a = c.args in
     let l = c.loop-k in
     sum_turn a.schema.now a.work.now a.enums a.names a.count a.from l.sum l.k c.body_length.result c.read_u32-name.result l.invariant
-    c.loop-k-test.true c.if-sum-gt16777216.false c.read_u32-name.ensures c.body_length.ensures
+    c.loop-k-test.true (omega arith) c.read_u32-name.ensures c.body_length.ensures
 
 pub returns : goal.returns
 returns c =

@@ -13,26 +13,19 @@ pub returns-then-levels-eq0 : goal.returns-then-levels-eq0
 returns-then-levels-eq0 t c =
     let a = c.args in Items.flags_empty a.levels a.sheet.now (entries_at a.schema.now a.n a.at) a.v c.if-levels-eq0.true
 
-pub returns-then-k-eq17 : goal.returns-then-k-eq17
-returns-then-k-eq17 t c =
-    let a = c.args in
-    let z = c.if-levels-eq0.false in
-    let e : a.levels ≡ suc (a.levels - 1) = omega arith in
-    Items.flags_own a.levels (a.levels - 1) e a.sheet.now (entries_at a.schema.now a.n a.at) a.v c.if-k-eq17.true
-
 pub returns-then-k-eq15 : goal.returns-then-k-eq15
 returns-then-k-eq15 t c =
     let a = c.args in
     let z = c.if-levels-eq0.false in
     let e : a.levels ≡ suc (a.levels - 1) = omega arith in
-    Items.flags_str a.levels (a.levels - 1) e a.sheet.now (entries_at a.schema.now a.n a.at) a.v c.if-k-eq17.false _ _ _ c.if-k-eq15.true c.text_of.ensures c.trim.ensures c.flag_text.ensures
+    Items.flags_str a.levels (a.levels - 1) e a.sheet.now (entries_at a.schema.now a.n a.at) a.v (λ q. omega arith) _ _ _ c.if-k-eq15.true c.text_of.ensures c.trim.ensures c.flag_text.ensures
 
 pub returns-then-k-ne19 : goal.returns-then-k-ne19
 returns-then-k-ne19 t c =
     let a = c.args in
     let z = c.if-levels-eq0.false in
     let e : a.levels ≡ suc (a.levels - 1) = omega arith in
-    Items.flags_int a.levels (a.levels - 1) e a.sheet.now (entries_at a.schema.now a.n a.at) a.v c.if-k-eq17.false c.if-k-eq15.false _ _ c.if-k-ne19.true c.int_of.ensures c.low_bits.ensures
+    Items.flags_int a.levels (a.levels - 1) e a.sheet.now (entries_at a.schema.now a.n a.at) a.v (λ q. omega arith) c.if-k-eq15.false _ _ c.if-k-ne19.true c.int_of.ensures c.low_bits.ensures
 
 pub loop-i-init : goal.loop-i-init
 loop-i-init t c = (omega arith, rw (add-zero, sub-zero) (Splits.or_none_law _))
@@ -55,7 +48,7 @@ returns-in-Unfit t c =
     let es = entries_at a.schema.now a.n a.at in
     ap bits_is
     (Items.items_unfit (a.levels - 1) a.sheet.now es c.first_child-first.result c.child_count-count.result l.i l.bits _ _ c.loop-i-test.true c.read_row-item.ensures c.flags_bits.ensures c.in-Unfit.is
-    ∙ l.invariant.1 ∙ Items.flags_items a.levels (a.levels - 1) e a.sheet.now es a.v c.if-k-eq17.false c.if-k-eq15.false _ _ c.if-k-ne19.false c.first_child-first.ensures.0 c.child_count-count.ensures.0)
+    ∙ l.invariant.1 ∙ Items.flags_items a.levels (a.levels - 1) e a.sheet.now es a.v (λ q. omega arith) c.if-k-eq15.false _ _ c.if-k-ne19.false c.first_child-first.ensures.0 c.child_count-count.ensures.0)
 
 pub returns-in-FloatText : goal.returns-in-FloatText
 returns-in-FloatText t c =
@@ -66,7 +59,7 @@ returns-in-FloatText t c =
     let es = entries_at a.schema.now a.n a.at in
     ap bits_is
     (Items.items_float (a.levels - 1) a.sheet.now es c.first_child-first.result c.child_count-count.result l.i l.bits _ _ c.loop-i-test.true c.read_row-item.ensures c.flags_bits.ensures c.in-FloatText.is
-    ∙ l.invariant.1 ∙ Items.flags_items a.levels (a.levels - 1) e a.sheet.now es a.v c.if-k-eq17.false c.if-k-eq15.false _ _ c.if-k-ne19.false c.first_child-first.ensures.0 c.child_count-count.ensures.0)
+    ∙ l.invariant.1 ∙ Items.flags_items a.levels (a.levels - 1) e a.sheet.now es a.v (λ q. omega arith) c.if-k-eq15.false _ _ c.if-k-ne19.false c.first_child-first.ensures.0 c.child_count-count.ensures.0)
 
 pub returns : goal.returns
 returns t c =
@@ -77,4 +70,4 @@ returns t c =
     let es = entries_at a.schema.now a.n a.at in
     ap bits_is
     (Items.items_done (a.levels - 1) a.sheet.now es c.first_child-first.result c.child_count-count.result l.i l.bits c.loop-i-test.false
-    ∙ l.invariant.1 ∙ Items.flags_items a.levels (a.levels - 1) e a.sheet.now es a.v c.if-k-eq17.false c.if-k-eq15.false _ _ c.if-k-ne19.false c.first_child-first.ensures.0 c.child_count-count.ensures.0)
+    ∙ l.invariant.1 ∙ Items.flags_items a.levels (a.levels - 1) e a.sheet.now es a.v (λ q. omega arith) c.if-k-eq15.false _ _ c.if-k-ne19.false c.first_child-first.ensures.0 c.child_count-count.ensures.0)

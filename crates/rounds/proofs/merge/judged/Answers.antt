@@ -1,5 +1,6 @@
 -- `rounds::merge::judged` meets its contract. Assumes nothing.
 use mathlib.Core.Path.{sym, subst, ◌∙◌}
+use native.Mathlib.Omega.{arith}
 use borrow.Author.Tests.{not-true, not-false}
 use Rattle.assemble.specs.Packed.{length_of}
 use Rattle.rounds.specs.Merge.{Judges}
@@ -28,11 +29,11 @@ returns-then-size-n c =
     let g = not-false a.st.job.good c.if-not-j.false in record {
       value = c.refusal-then-size-n.ensures ∙ at_past a.size a.st n.result _ g n.ensures.value c.if-size-n.true;
       judges = subst (Judges a.schema.now a.size a.st a.work.now) (sym c.refusal-then-size-n.ensures)
-          (judge_long a.schema.now a.size a.st a.work.now n.result g n.ensures.counts c.if-n-gt16777216.false c.if-size-n.true);
+          (judge_long a.schema.now a.size a.st a.work.now n.result g n.ensures.counts (omega arith) c.if-size-n.true);
     }
 
 pub returns : goal.returns
 returns c =
     let a = c.args in
     let n = c.file_length-n in
-    let g = not-false a.st.job.good c.if-not-j.false in record { value = at_end_law a.size a.st n.result _ g n.ensures.value c.if-n-gt16777216.false c.if-size-n.false; judges = judge_fits a.schema.now a.size a.st a.work.now n.result g n.ensures.counts c.if-n-gt16777216.false c.if-size-n.false }
+    let g = not-false a.st.job.good c.if-not-j.false in record { value = at_end_law a.size a.st n.result _ g n.ensures.value (omega arith) c.if-size-n.false; judges = judge_fits a.schema.now a.size a.st a.work.now n.result g n.ensures.counts (omega arith) c.if-size-n.false }
