@@ -1,7 +1,7 @@
 -- A remark is met: the four ways of `note`. Assumes nothing.
 use mathlib.Core.Path.{◌≡◌, refl, sym, ap, ◌∙◌}
 use mathlib.Core.Bool.{true, false, ◌||◌}
-use mathlib.Core.List.{List, [], ◌∷◌, ◌++◌, append-nil}
+use mathlib.Core.List.{[], ◌∷◌, ◌++◌, append-nil}
 use Prim.Native.Nat.{ℕ, ◌+◌, ◌-◌, ◌*◌, ◌≤◌, ◌<◌}
 use native.Mathlib.Omega.{arith}
 use lib.Dec.{ltb}
@@ -134,27 +134,18 @@ module _ (R : Round) (n : ℕ) (p : Progress) (w : Bytes) (r : Remark) (safe : S
           16384 (rows_bytes k.rows) (row_bytes r) (32768 + 16 * p.rows) (omega (arith, length_rows k.rows, q.rows)) (omega (arith, length_rows k.rows, q.rows))
           ∙ ap (λ (x : Bytes). flat ((32768, rows_of s.core.blocks) ∷ (16384, x) ∷ (16384, []) ∷ (4 * R.entries, words s.core.structs) ∷ (4 * R.entries, words s.core.enums) ∷ (R.cap, encode s.core.items) ∷ (n - stack_at R, σ) ∷ [])) (sym (rows_snoc k.rows r)))
 
--- it is new, and the rows are full: what `noted_in` gives, and what is kept
-pub noted_full : (R : Round) (p : Progress) (w : Bytes) (r : Remark) → p.seen ≤ p.next → R.skip ≤ p.seen → remarked r (rows_in w 32768 p.rows) ≡ false → 1024 ≤ p.rows
-    → noted_in R p w r ≡ (with_notes p p.rows (p.seen + 1) p.next, w)
-unfolding meet noted_in rows_bytes
-noted_full R p w r h s e l =
-    let m = length_rows_in w 32768 p.rows in
-    let d : drop p.rows (rows_in w 32768 p.rows) ≡ [] = drop_of_length-le (rows_in w 32768 p.rows) {i = p.rows} (omega arith) in
-    rw (le-ltb p.next p.seen h, le-ltb p.seen R.skip s, e, m, le-ltb p.rows max_rows l, m, d, over_nil) refl
-
-pub kept_full : (skip : ℕ) (es : List Remark) (r : Remark) → (kept skip es).seen ≤ (kept skip es).next → skip ≤ (kept skip es).seen → remarked r (kept skip es).rows ≡ false
-    → 1024 ≤ length (kept skip es).rows
-    → kept skip (es ++ (r ∷ [])) ≡ record { rows = (kept skip es).rows; next = (kept skip es).next; seen = (kept skip es).seen + 1 }
-unfolding meet
-kept_full skip es r h s e l =
-    let k = kept skip es in kept_snoc skip es r ∙ rw (le-ltb k.next k.seen h, le-ltb k.seen skip s, e, le-ltb (length k.rows) max_rows l) refl
-
--- .. and the rows that stand in the area
-abbrev area_is : Bytes → List Remark → ℕ → ℕ → ℕ → ℕ → Bytes → Bytes → Bytes → Bytes → Bytes
-area_is a rs e f g k x y z u = flat ((32768, a) ∷ (16384, rows_bytes rs) ∷ (16384, []) ∷ (e, x) ∷ (f, y) ∷ (g, z) ∷ (k, u) ∷ [])
-
-pub rows_read : (a : Bytes) (rs : List Remark) (e f g k : ℕ) (x y z u : Bytes) → Every Tiny rs → length rs ≤ 1024
-    → (area_is a rs e f g k x y z u ≡ area_is a rs e f g k x y z u) × (rows_in (area_is a rs e f g k x y z u) 32768 (length rs) ≡ rs)
-rows_read a rs e f g k x y z u t l =
-    (refl, rows_stand (area_is a rs e f g k x y z u) 32768 rs t (flat.holds ((32768, a) ∷ []) ((16384, []) ∷ (e, x) ∷ (f, y) ∷ (g, z) ∷ (k, u) ∷ []) 16384 (rows_bytes rs) 32768 (omega (arith, length_rows rs)) (omega arith)))
+  -- it is new, and the rows are full
+  pub note_full : p.seen ≤ p.next → ltb p.seen R.skip || remarked r (rows_in w 32768 p.rows) ≡ false → 1024 ≤ p.rows
+      → Notes R n p w r (with_notes p p.rows (p.seen + 1) p.next) w
+  unfolding meet noted_in
+  note_full h e l =
+      notes w p.rows p.next safe.rows (omega (arith, safe.next)) says
+      (rw (le-ltb p.next p.seen h, e, length_rows_in w 32768 p.rows, le-ltb p.rows max_rows l) (same_rows p.next (p.seen + 1)))
+    where
+      says : (S : Schema) (s : State) (σ : Bytes) → Rep S R n s σ p w → Rep S R n (with_remark r s) σ (with_notes p p.rows (p.seen + 1) p.next) w
+      says S s σ q =
+          let k = kept R.skip s.events in
+          let t : ltb k.next k.seen ≡ false = le-ltb k.next k.seen (omega (arith, q.next, q.seen)) in
+          let u : ltb k.seen R.skip || remarked r k.rows ≡ false = rw (← q.seen, ← (rows_are S s σ q)) e in
+          let v : ltb (length k.rows) max_rows ≡ false = le-ltb (length k.rows) max_rows (omega (arith, q.rows)) in
+          rep_noted S s σ w p.rows (p.seen + 1) p.next q (record { rows = k.rows; next = k.next; seen = k.seen + 1 }) (rw (t, u, v)) q.rows (ap (λ (x : ℕ). x + 1) q.seen) q.next q.tiny q.work

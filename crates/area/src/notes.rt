@@ -52,7 +52,6 @@ fn remarked(work: &[u8], n: usize, r: Remark) -> bool
 }
 
 // A remark is met: kept as a row, unless it stands there, belongs to an earlier round, or the rows are full.
-#[tactic(auto, using(crate::proofs::Noting::kept_full, crate::proofs::Noting::rows_read, crate::proofs::Noting::noted_full))]
 pub fn note(work: &mut [u8], round: Round, p: Progress, r: Remark) -> Progress
     requires { Safe round (length work.old) p }
     ensures { Notes round (length work.old) p work.old r result work.new }

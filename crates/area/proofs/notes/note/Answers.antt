@@ -1,9 +1,8 @@
 -- `area::notes::note` meets its contract. Assumes nothing.
 use mathlib.Core.Path.{sym, ◌∙◌}
-use native.Mathlib.Omega.{arith}
 use lib.ListN.{length}
 use borrow.Author.Tests.{lt-ltb, le-ltb}
-use Rattle.area.proofs.Noting.{note_late, note_known, note_new}
+use Rattle.area.proofs.Noting.{note_late, note_known, note_new, note_full}
 use Rattle.area.proofs.notes.note.Goals as goal
 
 pub returns-then-p : goal.returns-then-p
@@ -22,11 +21,17 @@ returns-then-remarked c =
     note_known a.round (length a.work.now) a.p a.work.now a.r c.requires c.if-p.false
     (rw (le-ltb a.p.seen a.round.skip c.if-p-round.false) (sym c.remarked.ensures ∙ c.if-remarked.true))
 
+pub returns-then-n-ge1024 : goal.returns-then-n-ge1024
+returns-then-n-ge1024 c =
+    let a = c.args in
+    note_full a.round (length a.work.now) a.p a.work.now a.r c.requires c.if-p.false
+    (rw (le-ltb a.p.seen a.round.skip c.if-p-round.false) (sym c.remarked.ensures ∙ c.if-remarked.false)) c.if-n-ge1024.true
+
 pub returns : goal.returns
 returns c =
     let a = c.args in
     let g = c.well_formed.1.1.1.0.1.1 in
     rw c.write_four.ensures
     (note_new a.round (length a.work.now) a.p a.work.now a.r c.requires c.if-p.false
-    (rw (le-ltb a.p.seen a.round.skip c.if-p-round.false) (sym c.remarked.ensures ∙ c.if-remarked.false)) (omega arith)
+    (rw (le-ltb a.p.seen a.round.skip c.if-p-round.false) (sym c.remarked.ensures ∙ c.if-remarked.false)) c.if-n-ge1024.false
     record { kind = g.0.1; structure = g.1.0.1; member = g.1.1.0.1; detail = g.1.1.1.0.1 })
