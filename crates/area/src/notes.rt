@@ -70,7 +70,8 @@ pub fn note(work: &mut [u8], round: Round, p: Progress, r: Remark) -> Progress
         q.next = p.next + 1;
         return q;
     }
-    if 1024 <= n {
+    let full = 1024 <= n;
+    if full {
         return q;
     }
     write_four(

@@ -21,11 +21,11 @@ returns-then-remarked c =
     note_known a.round (length a.work.now) a.p a.work.now a.r c.requires c.if-p.false
     (rw (le-ltb a.p.seen a.round.skip c.if-p-round.false) (sym c.remarked.ensures ∙ c.if-remarked.true))
 
-pub returns-then-n-ge1024 : goal.returns-then-n-ge1024
-returns-then-n-ge1024 c =
+pub returns-then-full : goal.returns-then-full
+returns-then-full c =
     let a = c.args in
     note_full a.round (length a.work.now) a.p a.work.now a.r c.requires c.if-p.false
-    (rw (le-ltb a.p.seen a.round.skip c.if-p-round.false) (sym c.remarked.ensures ∙ c.if-remarked.false)) c.if-n-ge1024.true
+    (rw (le-ltb a.p.seen a.round.skip c.if-p-round.false) (sym c.remarked.ensures ∙ c.if-remarked.false)) c.if-full.true
 
 pub returns : goal.returns
 returns c =
@@ -33,5 +33,5 @@ returns c =
     let g = c.well_formed.1.1.1.0.1.1 in
     rw c.write_four.ensures
     (note_new a.round (length a.work.now) a.p a.work.now a.r c.requires c.if-p.false
-    (rw (le-ltb a.p.seen a.round.skip c.if-p-round.false) (sym c.remarked.ensures ∙ c.if-remarked.false)) c.if-n-ge1024.false
+    (rw (le-ltb a.p.seen a.round.skip c.if-p-round.false) (sym c.remarked.ensures ∙ c.if-remarked.false)) c.if-full.false
     record { kind = g.0.1; structure = g.1.0.1; member = g.1.1.0.1; detail = g.1.1.1.0.1 })
