@@ -13,7 +13,6 @@ use names::enums::enum_value;
 use names::flags::flags_bits;
 use names::hashes::hash_of;
 use numbers::words::{part_from, part_to, read_u32, read_u64};
-use std::alloc::Global;
 use std::io;
 use std::io::Read;
 use value::{Row, read_row};
@@ -158,15 +157,27 @@ fn published_line(rt: &impl Print) -> io::Result<()> {
     println!(rt; "rage_joaat: {} of 3 published values agree", published())
 }
 
-// The first 65,536 bytes of the input, or all of it where it has no more.
-fn read_all(rt: &impl Input, alloc: Global) -> io::Result<Vec<u8>> {
-    let mut space = Vec::new(alloc);
-    rt.reader().take(65536).read_to_end(&mut space)?;
-    Ok(space)
+// Reads until the slice is full or the input ends; how many bytes there were.
+fn read_all(rt: &impl Input, space: &mut [u8]) -> io::Result<usize> {
+    let mut reader = rt.reader();
+    let mut n = 0;
+    while n < space.len() {
+        let more = reader.read(&mut space[n..])?;
+        if more == 0 {
+            return Ok(n);
+        }
+        n += more;
+    }
+    Ok(n)
+}
+
+fn lines_of(rt: &impl Print, space: &[u8], n: usize) -> io::Result<()> {
+    lines(rt, part_to(space, n))
 }
 
 fn main(rt: HostRuntime) -> io::Result<()> {
-    let space = read_all(&rt, rt.alloc())?;
-    lines(&rt, &space)?;
+    let mut space = [0u8; 65536];
+    let n = read_all(&rt, &mut space)?;
+    lines_of(&rt, &space, n)?;
     published_line(&rt)
 }

@@ -13,7 +13,6 @@ use layout::Remark;
 use numbers::words::{part_from, part_to, read_u32};
 use pso::parse::{Parsed, parse_pso};
 use pso_write::build_pso;
-use std::alloc::Global;
 use std::io;
 use std::io::Read;
 use turns::Built;
@@ -53,6 +52,10 @@ fn pack(
     keep(b, list)
 }
 
+fn say(rt: &impl Print, what: &str, n: u64) -> io::Result<()> {
+    print!(rt; "{what}{n}")
+}
+
 fn end(rt: &impl Print, same: bool) -> io::Result<()> {
     if same {
         println!(rt; ", same")
@@ -63,7 +66,10 @@ fn end(rt: &impl Print, same: bool) -> io::Result<()> {
 
 // The line of a case that was built.
 fn built_line(rt: &impl Print, code: u32, len: usize, count: usize, same: bool) -> io::Result<()> {
-    print!(rt; ": code {code}, {len} bytes, {count} remarks")?;
+    say(rt, ": code ", code as u64)?;
+    say(rt, ", ", len as u64)?;
+    say(rt, " bytes, ", count as u64)?;
+    print!(rt; " remarks")?;
     end(rt, same)
 }
 
@@ -77,7 +83,12 @@ fn read_line(
     blocks: usize,
     same: bool,
 ) -> io::Result<()> {
-    print!(rt; ": code {code}, root {root}, {len} bytes at {place}, {blocks} blocks")?;
+    say(rt, ": code ", code as u64)?;
+    say(rt, ", root ", root as u64)?;
+    say(rt, ", ", len as u64)?;
+    say(rt, " bytes at ", place as u64)?;
+    say(rt, ", ", blocks as u64)?;
+    print!(rt; " blocks")?;
     end(rt, same)
 }
 
@@ -162,7 +173,7 @@ fn one(
     work: &mut [u8],
     out: &mut [u8],
 ) -> io::Result<()> {
-    print!(rt; "case {number}")?;
+    say(rt, "case ", number)?;
     if read_u32(row, 4) == 1 {
         return read_case(rt, row);
     }
@@ -192,21 +203,43 @@ fn cases(rt: &impl Print, all: &[u8], work: &mut [u8], out: &mut [u8]) -> io::Re
     Ok(())
 }
 
-// The first 327,680 bytes of the input, or all of it where it has no more.
-fn read_all(rt: &impl Input, alloc: Global) -> io::Result<Vec<u8>> {
-    let mut all = Vec::new(alloc);
-    rt.reader().take(327680).read_to_end(&mut all)?;
-    Ok(all)
+// Reads until the slice is full or the input ends; how many bytes there were.
+fn read_slice(rt: &impl Input, all: &mut [u8]) -> io::Result<usize> {
+    let mut reader = rt.reader();
+    let mut n = 0;
+    while n < all.len() {
+        let more = reader.read(&mut all[n..])?;
+        if more == 0 {
+            return Ok(n);
+        }
+        n += more;
+    }
+    Ok(n)
 }
 
-// Makes the areas that the cases are lent: a work area of 4 MB for refusal 10.
-fn replay(rt: &impl Print, alloc: Global, all: &[u8]) -> io::Result<()> {
-    let mut work = vec![in alloc; 0u8; 4325376]?;
-    let mut out = vec![in alloc; 0u8; 2048]?;
-    cases(rt, all, &mut work, &mut out)
+fn read_all(rt: &impl Input, all: &mut [u8; 327680]) -> io::Result<usize> {
+    read_slice(rt, all)
+}
+
+fn of(rt: &impl Print, all: &[u8], n: usize, work: &mut [u8], out: &mut [u8]) -> io::Result<()> {
+    cases(rt, part_to(all, n), work, out)
+}
+
+// The areas of `main`, as slices: a work area of 4 MB for refusal 10.
+fn replay(
+    rt: &impl Print,
+    all: &[u8; 327680],
+    n: usize,
+    work: &mut [u8; 4325376],
+    out: &mut [u8; 2048],
+) -> io::Result<()> {
+    of(rt, all, n, work, out)
 }
 
 fn main(rt: HostRuntime) -> io::Result<()> {
-    let all = read_all(&rt, rt.alloc())?;
-    replay(&rt, rt.alloc(), &all)
+    let mut all = [0u8; 327680];
+    let mut work = [0u8; 4325376];
+    let mut out = [0u8; 2048];
+    let n = read_all(&rt, &mut all)?;
+    replay(&rt, &all, n, &mut work, &mut out)
 }
