@@ -1,23 +1,10 @@
 -- `numbers::words::clear` meets its contract. Assumes nothing.
-use mathlib.Core.Path.{refl, ◌∙◌}
-use Prim.Native.Nat.{◌+◌}
-use native.Mathlib.Omega.{arith}
-use lib.ListN.{length-set}
-use Rattle.numbers.proofs.Laws
+use Rattle.std.proofs.Common.{ℕ, ◌+◌, ◌-◌, drop, replicate, ap, sym, arith, ◌∙◌}
+use lib.ListN.{length-drop}
+use lib.Seq.{length-take-le}
+use Rattle.numbers.proofs.Mid.{over_mid}
 use Rattle.numbers.proofs.words.clear.Goals as goal
-
-pub loop-i-init : goal.loop-i-init
-loop-i-init c = (omega arith, refl, Laws.clear_start c.args.s.now _ c.args.n)
-
-pub loop-i-preserved : goal.loop-i-preserved
-loop-i-preserved c =
-    let l = c.loop-i in
-    let a = c.args in
-    (omega arith, length-set l.s _ _ ∙ l.invariant.1, Laws.clear_turn l.s a.at l.i (omega arith) _ a.n c.loop-i-test.true l.invariant.2)
-
-pub shape_of-s : goal.shape_of-s
-shape_of-s c = c.loop-i.invariant.1
 
 pub returns : goal.returns
 returns c =
-    let l = c.loop-i in Laws.clear_done l.s (c.args.at + l.i) _ c.args.n l.i c.loop-i-test.false l.invariant.2
+    over_mid c.args.at _ c.args.n c.args.s.now c.fill.new.self _ c.fill.ensures.len (omega arith) (omega arith) (c.fill.ensures.after (λ y e. e) ∙ sym (ap (λ (n : ℕ). replicate n 0) (let e = length-take-le (c.args.at + c.args.n - c.args.at) (drop c.args.at c.args.s.now) (omega (arith, length-drop c.args.at c.args.s.now)) in omega (arith, e))))

@@ -1,14 +1,10 @@
 -- `numbers::words::is_name` meets its contract. Assumes nothing.
-use native.Mathlib.Omega.{arith}
-use Rattle.numbers.proofs.Equal
+use Rattle.std.proofs.Common.{ℕ, List, eqb, length, take, ap, ◌∙◌}
+use lib.Pointwise.{pointwise}
+use Rattle.numbers.proofs.Mid.{named_first}
 use Rattle.numbers.proofs.words.is_name.Goals as goal
-
-pub returns-then-left-lt4 : goal.returns-then-left-lt4
-returns-then-left-lt4 c =
-    let a = c.args in Equal.named_short a.name.now a.s.now a.at (λ i. (c.shared_slice_known-1.given i).fits) (omega arith)
 
 pub returns : goal.returns
 returns c =
-    let a = c.args in
-    Equal.named a.name.now a.s.now a.at (λ i. (c.shared_slice_known-1.given i).fits) (omega arith) _ _ _ _
-    c.is_byte-a.ensures c.is_byte-b.ensures c.is_byte-c.ensures c.is_byte-d.ensures
+    named_first c.args.name.now c.args.s.now c.args.at c.starts_with.result c.told-name c.fits-name (λ i. (c.type_inv.s i).fits)
+    (c.starts_with.ensures.value ∙ ap (λ (b : List ℕ). pointwise eqb c.args.name.now (take (length c.args.name.now) b)) c.part_from.ensures)

@@ -1,17 +1,8 @@
 -- `numbers::words::write_name` meets its contract. Assumes nothing.
-use native.Mathlib.Omega.{arith}
-use lib.ListN.{length-set}
-use Rattle.numbers.proofs.Laws
+use Rattle.std.proofs.Common.{arith, ◌∙◌}
+use Rattle.numbers.proofs.Mid.{over_mid, four_bytes}
 use Rattle.numbers.proofs.words.write_name.Goals as goal
 
-pub bounds-s-at-2 : goal.bounds-s-at-2
-bounds-s-at-2 c = simp length-set (omega arith)
-
-pub bounds-s-at-3 : goal.bounds-s-at-3
-bounds-s-at-3 c = simp length-set (omega arith)
-
-pub bounds-s-at-4 : goal.bounds-s-at-4
-bounds-s-at-4 c = simp length-set (omega arith)
-
 pub returns : goal.returns
-returns c = let a = c.args in Laws.over_four a.s.now a.at _ _ _ _ c.requires
+returns c =
+    over_mid c.args.at _ 4 c.args.s.now c.copy_from_slice.new.self _ c.copy_from_slice.ensures.len (omega arith) (omega arith) (c.copy_from_slice.ensures.after ∙ four_bytes c.args.name.now c.told-name)
