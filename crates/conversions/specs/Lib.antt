@@ -4,4 +4,3 @@ pub mod Single
 pub mod Round
 pub mod Trunc
 pub mod Radix
-pub mod Answer

@@ -1,8 +1,6 @@
 -- A whole number written in a radix from 2 to 36, as Rust's `from_str_radix` reads it: over any radix and any width.
-use Rattle.std.specs.Prelude.{ℕ, ◌+◌, ◌-◌, ◌*◌, ◌^◌, true, false, cond, [], ◌∷◌, leb, ltb, eqb, get_or, drop, ℤ, pos, neg_ℤ}
-use Rattle.std.proofs.Math.Option.{Option, none, some}
+use Rattle.std.specs.Prelude.{ℕ, ◌+◌, ◌-◌, ◌*◌, ◌^◌, true, false, cond, [], ◌∷◌, leb, ltb, eqb, get_or, drop, ℤ, pos, neg_ℤ, Option, Some, None, option_map}
 use Rattle.numbers.specs.Words.{Bytes}
-use Rattle.numbers.specs.Result.{map_option}
 
 -- The number that a digit or a letter in either case stands for; 36, which no radix has, for any other byte.
 -- From the lowest byte up: the digits are 48 to 57, the capitals 65 to 90, the small letters 97 to 122.
@@ -14,17 +12,17 @@ digit_of b =
 
 -- the digits of a text, behind digits whose number is n
 unfoldable pub number : ℕ → ℕ → Bytes → Option ℕ
-number r n [] = some n
-number r n (b ∷ bs) = elim (ltb (digit_of b) r) [ true ↦ number r (n * r + digit_of b) bs | false ↦ none ]
+number r n [] = Some n
+number r n (b ∷ bs) = elim (ltb (digit_of b) r) [ true ↦ number r (n * r + digit_of b) bs | false ↦ None ]
 
 -- a number above the limit is none
 abbrev pub up_to : ℕ → Option ℕ → Option ℕ
-up_to max none = none
-up_to max (some n) = cond (leb n max) (some n) none
+up_to max None = None
+up_to max (Some n) = cond (leb n max) (Some n) None
 
 -- one digit at least, and nothing but digits
 unfoldable pub plain : ℕ → Bytes → Option ℕ
-plain r [] = none
+plain r [] = None
 plain r (b ∷ bs) = number r 0 (b ∷ bs)
 
 -- the same up to a limit
@@ -51,8 +49,8 @@ minus_of n = neg_ℤ (pos n)
 unfoldable pub signed : ℕ → ℕ → Bytes → Option ℤ
 signed w r l =
     cond (eqb (first_of l) 45)
-    (map_option minus_of (digits r (2 ^ (w - 1)) (drop 1 l)))
-    (map_option pos (digits r (2 ^ (w - 1) - 1) (after_plus l)))
+    (option_map minus_of (digits r (2 ^ (w - 1)) (drop 1 l)))
+    (option_map pos (digits r (2 ^ (w - 1) - 1) (after_plus l)))
 
 -- for evaluation
 unfoldable pub evaluated : ℕ → ℕ → Bytes → Option ℤ

@@ -1,20 +1,9 @@
 // f32 bit patterns: from a whole number, and to one.
-ghost use Rattle.std.specs.Prelude.{◌≡◌, ◌+◌, ◌<◌, ◌*◌, ◌^◌, pos, nat_abs, ◌-ℤ◌, ◌*ℤ◌};
+ghost use Rattle.std.specs.Prelude.{◌≡◌, ◌+◌, ◌<◌, ◌*◌, ◌^◌, pos, ◌-ℤ◌, ◌*ℤ◌};
 ghost use Rattle.std.proofs.Math.IntN.{sub_ℕ};
 ghost use Rattle.conversions.specs.Single.{value};
 ghost use Rattle.conversions.specs.Round.{Rounded, round40, mag_of, f32_of};
 ghost use Rattle.conversions.specs.Trunc.{whole, i64_of};
-
-// How far x is from 0.
-pub fn magnitude(x: i64) -> u64
-    ensures { result ≡ nat_abs x }
-{
-    if x < 0 {
-        ((-1 - x) as u64) + 1
-    } else {
-        x as u64
-    }
-}
 
 // n / 2^40 to the nearest whole number, and at a tie to the even one.
 #[tactic(auto, unfolding(crate::specs::Round::round40))]
@@ -40,7 +29,7 @@ pub fn f32_of_u64(m: u64) -> u32
     if m == 0 {
         return 0;
     }
-    let z = u64::leading_zeros(m);
+    let z = m.leading_zeros();
     let c = round_even(m << z);
     (189 - z) * 0x80_0000 + (c as u32)
 }
@@ -49,11 +38,8 @@ pub fn f32_of_u64(m: u64) -> u32
 pub fn f32_of_i64(x: i64) -> u32
     ensures { Rounded x result }
 {
-    if x < 0 {
-        0x8000_0000 + f32_of_u64(magnitude(x))
-    } else {
-        f32_of_u64(magnitude(x))
-    }
+    let m = f32_of_u64(x.unsigned_abs());
+    if x < 0 { 0x8000_0000 + m } else { m }
 }
 
 // The whole part of the f32 with the pattern p, whose sign bit is not set and which is below 2^64.
@@ -61,6 +47,7 @@ fn whole_of(p: u32) -> u64
     requires { p < 191 * 2 ^ 23 }
     ensures { result ≡ whole p }
 {
+    // The steps on bits are a rule of the project: no f32 is computed with.
     let e = p >> 23;
     let c = (p % 0x80_0000 + 0x80_0000) as u64;
     if e < 127 {
@@ -82,17 +69,12 @@ pub fn i64_of_f32(b: u32) -> i64
     if p > 0x7F80_0000 {
         return 0;
     }
-    if b < 0x8000_0000 {
-        if p < 0x5F00_0000 {
-            return whole_of(p) as i64;
-        }
-        i64::MAX
-    } else {
-        if p < 0x5F00_0000 {
-            return 0 - (whole_of(p) as i64);
-        }
-        i64::MIN
+    let negative = 0x8000_0000 <= b;
+    if p < 0x5F00_0000 {
+        let n = whole_of(p) as i64;
+        return if negative { -n } else { n };
     }
+    if negative { i64::MIN } else { i64::MAX }
 }
 
 // a - b, which is in range.
@@ -100,18 +82,14 @@ fn difference(a: u64, b: u64) -> i64
     requires { (a < b + 2 ^ 63) × (b < a + 2 ^ 63) }
     ensures { result ≡ sub_ℕ a b }
 {
-    if a < b {
-        0 - ((b - a) as i64)
-    } else {
-        (a - b) as i64
-    }
+    a.wrapping_sub(b).cast_signed()
 }
 
 // What x has more than the f32 nearest to it: exact, and negative where x is below.
 pub fn f32_rest(x: i64) -> i64
     ensures { x *ℤ pos (2 ^ 149) -ℤ value (f32_of x) ≡ result *ℤ pos (2 ^ 149) }
 {
-    let m = magnitude(x);
+    let m = x.unsigned_abs();
     let w = whole_of(f32_of_u64(m));
     if x < 0 {
         difference(w, m)

@@ -1,61 +1,114 @@
 -- The float grammar's parts. Assumes nothing.
-use mathlib.Core.Path.{◌≡◌, sym, ◌∙◌}
+use mathlib.Core.Path.{◌≡◌, refl, ap, ◌∙◌}
+use Rattle.std.specs.Prelude.{not, ◌==◌}
 use mathlib.Core.Bool.{Bool, true, false, ◌&&◌, ◌||◌}
-use mathlib.Core.List.{List}
-use Prim.Native.Nat.{ℕ, suc, ◌+◌, ◌≤◌, ◌<◌}
-use native.Mathlib.Numerals.{add-one}
+use mathlib.Core.List.{List, [], ◌∷◌}
+use native.Mathlib.Omega.{arith}
+use Prim.Native.Nat.{ℕ, zero, suc, ◌+◌, ◌-◌, ◌≤◌, ◌<◌}
 use borrow.Author.Tests.{eq-eqb, ne_eqb}
-use lib.Dec.{eqb, leb}
-use lib.ListN.{length, get_or, drop, drop_of_length-le}
-use lib.Seq.{drop-cons}
+use lib.Dec.{leb, eqb-suc-suc, eqb-zero-suc}
+use lib.ListN.{length, take, drop}
 use Rattle.numbers.specs.Words.{is_empty}
+use Rattle.numbers.proofs.Parts.{part_rest}
 use Rattle.conversions.specs.Radix.{first_of}
 use Rattle.texts.specs.Float.{is_digit, leading_digits, after_sign, only_digits, exponent, decimal, special, parses_float}
 
-module _ (s : List ℕ) (i : ℕ) where
-  pub digits_next : i < length s → is_digit (get_or s i 0) ≡ true → leading_digits (drop i s) ≡ suc (leading_digits (drop (i + 1) s))
-  unfolding leading_digits
-  digits_next h t = rw (drop-cons s i 0 h, add-one) (rw (t, leading_digits))
+or_false : (a : Bool) → (a || false) ≡ a
+or_false true = refl
+or_false false = refl
 
-  pub digits_stop : i < length s → is_digit (get_or s i 0) ≡ false → leading_digits (drop i s) ≡ 0
-  unfolding leading_digits
-  digits_stop h t = rw (drop-cons s i 0 h) (rw (t, leading_digits))
+-- ---- the digits in front
 
-  pub digits_end : length s ≤ i → leading_digits (drop i s) ≡ 0
-  unfolding leading_digits
-  digits_end h = rw (drop_of_length-le s h)
+-- what is no digit, which `position` looks for
+abbrev pub other : ℕ → Bool
+other b = not (is_digit b)
+
+pub digits_stop : (b : ℕ) (l : List ℕ) → other b ≡ true → leading_digits (b ∷ l) ≡ 0
+unfolding leading_digits
+digits_stop b l t = by (is_digit b) refl t where
+  by : (k : Bool) → is_digit b ≡ k → not k ≡ true → leading_digits (b ∷ l) ≡ 0
+  by true q e = cc
+  by false q e = rw (q, leading_digits)
+
+pub digits_go : (b : ℕ) (l : List ℕ) → other b ≡ false → leading_digits (b ∷ l) ≡ suc (leading_digits l)
+unfolding leading_digits
+digits_go b l t = by (is_digit b) refl t where
+  by : (k : Bool) → is_digit b ≡ k → not k ≡ false → leading_digits (b ∷ l) ≡ suc (leading_digits l)
+  by true q e = rw (q, leading_digits)
+  by false q e = cc
+
+-- the digits end where the text does
+pub only_is : (s : List ℕ) (n : ℕ) → n ≡ leading_digits s → n ≤ length s → (leb 1 n && (n == length s)) ≡ only_digits s
+unfolding only_digits
+only_is s n e h = rw (← e) (ap (λ (t : Bool). leb 1 n && t) (ends n s h)) where
+  ends : (n : ℕ) (s : List ℕ) → n ≤ length s → (n == length s) ≡ is_empty (drop n s)
+  ends zero [] h = refl
+  ends zero (b ∷ s) h = ne_eqb 0 (length (b ∷ s)) (λ e. omega (arith, e))
+  ends (suc n) [] h = absurd (omega arith)
+  ends (suc n) (b ∷ s) h = rw eqb-suc-suc (ends n s (omega arith))
+
+-- ---- the first byte
+
+-- it is there if it is one of two that are not 0
+pub is_there : (f a b : ℕ) → 0 < a → 0 < b → ((f == a) || (f == b)) ≡ true → 0 < f
+is_there zero (suc a) (suc b) h k e = cc (eqb-zero-suc a, eqb-zero-suc b)
+is_there (suc f) a b h k e = omega arith
+is_there zero zero b h k e = absurd (omega arith)
+is_there zero (suc a) zero h k e = absurd (omega arith)
 
 module _ (s : List ℕ) (f : ℕ) (p : f ≡ first_of s) where
-  pub sign_there : (t : List ℕ) → (eqb f 43 || eqb f 45) ≡ true → t ≡ drop 1 s → t ≡ after_sign s
+  pub sign_there : ((f == 43) || (f == 45)) ≡ true → drop 1 s ≡ after_sign s
   unfolding after_sign
-  sign_there t e q = rw (← p, e) q
+  sign_there e = rw (← p, e)
 
-  pub sign_none : (eqb f 43 || eqb f 45) ≡ false → s ≡ after_sign s
+  pub sign_none : ((f == 43) || (f == 45)) ≡ false → s ≡ after_sign s
   unfolding after_sign
   sign_none e = rw (← p, e)
 
-  pub exponent_is : (e d : Bool) (t u : List ℕ) → e ≡ is_empty s → t ≡ drop 1 s → u ≡ after_sign t → d ≡ only_digits u
-      → (e || ((eqb f 101 || eqb f 69) && d)) ≡ exponent s
+  pub mark_there : 0 < length s → ((f == 101) || (f == 69)) ≡ true → only_digits (after_sign (drop 1 s)) ≡ exponent s
   unfolding exponent
-  exponent_is e d t u pe pt pu pd = rw (pe, pd, pu, pt, p)
+  mark_there h e = rw (there s h, ← p, e) where
+    there : (s : List ℕ) → 0 < length s → is_empty s ≡ false
+    there [] h = absurd (omega arith)
+    there (b ∷ l) h = refl
 
-pub only_is : (s t : List ℕ) (n : ℕ) (e : Bool) → n ≡ leading_digits s → t ≡ drop n s → e ≡ is_empty t → (leb 1 n && e) ≡ only_digits s
-unfolding only_digits
-only_is s t n e pn pt pe = rw (pe, pt, pn)
+  pub mark_none : ((f == 101) || (f == 69)) ≡ false → is_empty s ≡ exponent s
+  unfolding exponent
+  mark_none e = rw (← p, e, or_false)
 
-module _ (s t : List ℕ) (n f : ℕ) (pn : n ≡ leading_digits s) (pt : t ≡ drop n s) (pf : f ≡ first_of t) where
-  at_point : first_of (drop (leading_digits s) s) ≡ f
-  at_point = rw (pf, pt, pn)
+-- ---- a number's parts
 
-  pub point_is : (u v : List ℕ) (m : ℕ) (x : Bool) → f ≡ 46 → u ≡ drop 1 t → m ≡ leading_digits u → v ≡ drop m u → x ≡ exponent v
-      → (leb 1 (n + m) && x) ≡ decimal s
+-- what follows the first byte of what follows n bytes, as the machine's slices give it
+pub after_part : (s : List ℕ) (n : ℕ) → take (length (take (length s - n) (drop n s)) - 1) (drop 1 (take (length s - n) (drop n s))) ≡ drop 1 (drop n s)
+after_part s n = part_rest (take (length s - n) (drop n s)) 1 ∙ ap (drop 1) (part_rest s n)
+
+module _ (s : List ℕ) (n : ℕ) (pn : n ≡ leading_digits s) where
+  pub point_is : first_of (drop n s) ≡ 46 → (m : ℕ) → m ≡ leading_digits (drop 1 (drop n s)) → (leb 1 (n + m) && exponent (drop m (drop 1 (drop n s)))) ≡ decimal s
   unfolding decimal
-  point_is u v m x e pu pm pv px = rw (eq-eqb (first_of (drop (leading_digits s) s)) 46 (at_point ∙ e)) (rw (px, pv, pm, pu, pt, pn))
+  point_is e m pm = rw (← pn) (rw (eq-eqb (first_of (drop n s)) 46 e, ← pm))
 
-  pub pointless_is : (x : Bool) → (f ≡ 46 → ⊥) → x ≡ exponent t → (leb 1 n && x) ≡ decimal s
+  pub pointless_is : (first_of (drop n s) ≡ 46 → ⊥) → (leb 1 n && exponent (drop n s)) ≡ decimal s
   unfolding decimal
-  pointless_is x e px = rw (ne_eqb (first_of (drop (leading_digits s) s)) 46 (λ y. e (sym at_point ∙ y))) (rw (px, pt, pn))
+  pointless_is e = rw (← pn) (rw (ne_eqb (first_of (drop n s)) 46 e))
 
-pub parses_is : (s t : List ℕ) (a b : Bool) → t ≡ after_sign s → a ≡ special t → b ≡ decimal t → (a || b) ≡ parses_float s
+-- ---- a test that runs only where the one before it holds, or does not
+
+pub and_then : (a b r : Bool) → (a && b) ≡ r → a ≡ true → b ≡ r
+and_then true b r e q = e
+and_then false b r e q = cc
+
+pub and_else : (a b r : Bool) → (a && b) ≡ r → a ≡ false → a ≡ r
+and_else true b r e q = cc
+and_else false b r e q = e
+
+pub or_then : (a b r : Bool) → (a || b) ≡ r → a ≡ true → a ≡ r
+or_then true b r e q = e
+or_then false b r e q = cc
+
+pub or_else : (a b r : Bool) → (a || b) ≡ r → a ≡ false → b ≡ r
+or_else true b r e q = cc
+or_else false b r e q = e
+
+pub parses_is : (s t : List ℕ) → t ≡ after_sign s → (special t || decimal t) ≡ parses_float s
 unfolding parses_float
-parses_is s t a b pt pa pb = rw (pa, pb, pt)
+parses_is s t e = rw e

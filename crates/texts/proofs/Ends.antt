@@ -1,60 +1,50 @@
 -- Trimming a list from its two ends, one element at a time. Assumes nothing.
-use mathlib.Core.Path.{◌≡◌, refl, sym, ap, ◌∙◌}
-use mathlib.Core.Bool.{true, false}
-use mathlib.Core.List.{List, [], ◌∷◌, ◌++◌}
-use Prim.Native.Nat.{ℕ, suc, ◌+◌, ◌-◌, ◌≤◌, ◌<◌}
+use mathlib.Core.Path.{◌≡◌, refl, ap}
+use mathlib.Core.Bool.{Bool, true, false, not}
+use mathlib.Core.List.{List, [], ◌∷◌}
+use Prim.Native.Nat.{ℕ, zero, suc, ◌<◌}
 use native.Mathlib.Omega.{arith}
-use native.Mathlib.Numerals.{add-one}
-use lib.ListN.{length, get_or, take, drop, drop_of_length-le}
-use lib.Seq.{drop-cons, take-suc}
-use Rattle.texts.specs.Text.{space, keep, trim_start, trim_end}
+use lib.ListN.{length, get_or, take, drop}
+use Rattle.texts.specs.Text.{space, trim_start, trim_end}
 
 -- ---- the front
 
-module _ (s : List ℕ) (i : ℕ) where
-  pub start_space : i < length s → space (get_or s i 0) ≡ true → trim_start (drop i s) ≡ trim_start (drop (i + 1) s)
-  unfolding trim_start
-  start_space h t = rw (drop-cons s i 0 h, add-one) (rw (t, trim_start))
+-- what is no white space, which `position` and `rposition` look for
+abbrev pub other : ℕ → Bool
+other b = not (space b)
 
-  pub start_stop : i < length s → space (get_or s i 0) ≡ false → trim_start (drop i s) ≡ drop i s
-  unfolding trim_start
-  start_stop h t = rw (drop-cons s i 0 h) (rw (t, trim_start))
+-- how many stand before it
+abbrev pub spaces : List ℕ → ℕ
+spaces [] = 0
+spaces (b ∷ l) = elim (other b) [ true ↦ 0 | false ↦ suc (spaces l) ]
 
-  pub start_none : length s ≤ i → trim_start (drop i s) ≡ drop i s
-  unfolding trim_start
-  start_none h = rw (drop_of_length-le s h)
+pub spaces_stop : (b : ℕ) (l : List ℕ) → other b ≡ true → spaces (b ∷ l) ≡ 0
+spaces_stop b l q = rw (q, spaces)
+
+pub spaces_go : (b : ℕ) (l : List ℕ) → other b ≡ false → spaces (b ∷ l) ≡ suc (spaces l)
+spaces_go b l q = rw (q, spaces)
+
+pub start_is : (s : List ℕ) → drop (spaces s) s ≡ trim_start s
+unfolding trim_start
+start_is [] = refl
+start_is (b ∷ l) = by (space b) refl (start_is l) where
+  by : (t : Bool) → space b ≡ t → drop (spaces l) l ≡ trim_start l → drop (spaces (b ∷ l)) (b ∷ l) ≡ trim_start (b ∷ l)
+  by true q e = rw (spaces_go b l (ap not q)) (rw (q, trim_start) e)
+  by false q e = rw (spaces_stop b l (ap not q)) (rw (q, trim_start))
 
 -- ---- the end
 
-snoc_space : (l : List ℕ) (x : ℕ) → space x ≡ true → trim_end (l ++ x ∷ []) ≡ trim_end l
+-- nothing but white space
+pub blank : (s : List ℕ) → ((k : ℕ) → k < length s → space (get_or s k 0) ≡ true) → trim_end s ≡ []
 unfolding trim_end
-snoc_space [] x t = rw t
-snoc_space (b ∷ l) x t = ap (keep b) (snoc_space l x t)
+blank [] h = refl
+blank (b ∷ l) h = rw (blank l (λ k g. h (suc k) (omega arith)), h 0 (omega arith))
 
-keep_snoc : (b : ℕ) (l : List ℕ) (x : ℕ) → keep b (l ++ x ∷ []) ≡ b ∷ (l ++ x ∷ [])
-keep_snoc b [] x = refl
-keep_snoc b (c ∷ l) x = refl
-
-snoc_stop : (l : List ℕ) (x : ℕ) → space x ≡ false → trim_end (l ++ x ∷ []) ≡ l ++ x ∷ []
+-- the last that is no white space
+pub end_is : (s : List ℕ) (i : ℕ) → i < length s → space (get_or s i 0) ≡ false → ((k : ℕ) → i < k → k < length s → space (get_or s k 0) ≡ true)
+    → take (suc i) s ≡ trim_end s
 unfolding trim_end
-snoc_stop [] x t = rw t
-snoc_stop (b ∷ l) x t = ap (keep b) (snoc_stop l x t) ∙ keep_snoc b l x
-
--- e is above 0, and the element before it is looked at
-module _ (s : List ℕ) (e : ℕ) (p : 0 < e) (h : e ≤ length s) where
-  last_is : take e s ≡ take (e - 1) s ++ get_or s (e - 1) 0 ∷ []
-  last_is =
-      let k : suc (e - 1) ≡ e = omega arith in
-      ap (λ (n : ℕ). take n s) (sym k) ∙ take-suc s (e - 1) 0 (omega arith)
-
-  pub end_space : space (get_or s (e - 1) 0) ≡ true → trim_end (take e s) ≡ trim_end (take (e - 1) s)
-  end_space t = ap trim_end last_is ∙ snoc_space (take (e - 1) s) (get_or s (e - 1) 0) t
-
-  pub end_stop : space (get_or s (e - 1) 0) ≡ false → trim_end (take e s) ≡ take e s
-  end_stop t = ap trim_end last_is ∙ snoc_stop (take (e - 1) s) (get_or s (e - 1) 0) t ∙ sym last_is
-
-pub end_none : (s : List ℕ) (e : ℕ) → e ≤ 0 → trim_end (take e s) ≡ trim_end s → take e s ≡ trim_end s
-unfolding trim_end
-end_none s e h p =
-    let z : e ≡ 0 = omega arith in
-    rw z (rw z at p)
+end_is [] i l q h = absurd (omega arith)
+end_is (b ∷ s) zero l q h = rw (blank s (λ k g. h (suc k) (omega arith) (omega arith)), q)
+end_is (b ∷ c ∷ s) (suc i) l q h = rw (← end_is (c ∷ s) i (omega arith) q (λ k g m. h (suc k) (omega arith) (omega arith)))
+end_is (b ∷ []) (suc i) l q h = absurd (omega arith)

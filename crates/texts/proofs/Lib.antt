@@ -1,6 +1,6 @@
 -- The laws that belong to no one function.
 pub mod Ends
-pub mod Prefix
 pub mod Letters
 pub mod Decimals
 pub mod Splits
+pub mod First

@@ -2,20 +2,18 @@
 use mathlib.Core.Path.{◌≡◌, refl, ap, ◌∙◌}
 use mathlib.Core.Bool.{Bool, true, false, cond}
 use mathlib.Core.List.{List, [], ◌∷◌}
-use Prim.Native.Nat.{ℕ, suc, ◌+◌, ◌≤◌, ◌<◌}
-use native.Mathlib.Numerals.{add-one}
-use lib.ListN.{length, get_or, take, drop, drop_of_length-le}
-use lib.Seq.{drop-cons}
+use Prim.Native.Nat.{ℕ, suc}
+use lib.ListN.{take, drop}
 use Rattle.numbers.specs.Words.{Bytes, is_empty}
 use Rattle.texts.specs.Text.{parting, until_parting, glue, split, non_empty, parts}
 
 -- ---- the first part
 
-until_stop : (b : ℕ) (l : Bytes) → parting b ≡ true → until_parting (b ∷ l) ≡ 0
+pub until_stop : (b : ℕ) (l : Bytes) → parting b ≡ true → until_parting (b ∷ l) ≡ 0
 unfolding until_parting
 until_stop b l q = rw (q, until_parting)
 
-until_go : (b : ℕ) (l : Bytes) → parting b ≡ false → until_parting (b ∷ l) ≡ suc (until_parting l)
+pub until_go : (b : ℕ) (l : Bytes) → parting b ≡ false → until_parting (b ∷ l) ≡ suc (until_parting l)
 unfolding until_parting
 until_go b l q = rw (q, until_parting)
 
@@ -26,17 +24,6 @@ split_stop b l q = rw q
 split_go : (b : ℕ) (l : Bytes) → parting b ≡ false → split (b ∷ l) ≡ glue b (split l)
 unfolding split
 split_go b l q = rw q
-
-module _ (s : Bytes) (i : ℕ) where
-  pub until_next : i < length s → parting (get_or s i 0) ≡ false → until_parting (drop i s) ≡ suc (until_parting (drop (i + 1) s))
-  until_next h t = rw (drop-cons s i 0 h, add-one) (until_go (get_or s i 0) (drop (suc i) s) t)
-
-  pub until_here : i < length s → parting (get_or s i 0) ≡ true → until_parting (drop i s) ≡ 0
-  until_here h t = rw (drop-cons s i 0 h) (until_stop (get_or s i 0) (drop (suc i) s) t)
-
-  pub until_end : length s ≤ i → until_parting (drop i s) ≡ 0
-  unfolding until_parting
-  until_end h = rw (drop_of_length-le s h)
 
 abbrev tail_of : List Bytes → List Bytes
 tail_of [] = []

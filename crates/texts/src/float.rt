@@ -1,88 +1,78 @@
 // The texts that Rust's f32 and f64 parse takes.
-ghost use Rattle.std.specs.Prelude.{◌≡◌, ◌≤◌, length};
+ghost use Rattle.std.specs.Prelude.{◌≡◌, ◌≤◌, ◌==◌, ◌||◌, length};
 ghost use Rattle.texts.specs.Float;
 
-use crate::text::{is_empty, is_word};
+use crate::text::is_word;
 use conversions::parse::first;
-use numbers::words::part_from;
-
-fn is_digit(b: u8) -> bool
-    ensures { result ≡ Float.is_digit b }
-{
-    (48 <= b) & (b <= 57)
-}
 
 // How many digits stand in front.
 fn leading_digits(s: &[u8]) -> usize
     ensures { (result ≡ Float.leading_digits s.now) × (result ≤ length s.now) }
 {
-    let mut i = 0;
-    while i < s.len() {
-        if !is_digit(s[i]) {
-            return i;
-        }
-        i += 1;
-    }
-    i
+    s.iter()
+        .position(|b| !b.is_ascii_digit())
+        .unwrap_or(s.len())
+}
+
+fn is_sign(b: u8) -> bool
+    ensures { result ≡ ((b == 43) || (b == 45)) }
+{
+    matches!(b, b'+' | b'-')
 }
 
 // What follows a sign.
 fn after_sign(s: &[u8]) -> &[u8]
     ensures { result.now ≡ Float.after_sign s.now }
 {
-    let f = first(s);
-    if (f == 43) | (f == 45) {
-        return part_from(s, 1);
-    }
-    s
+    if is_sign(first(s)) { &s[1..] } else { s }
 }
 
 fn only_digits(s: &[u8]) -> bool
     ensures { result ≡ Float.only_digits s.now }
 {
     let n = leading_digits(s);
-    let e = is_empty(part_from(s, n));
-    (1 <= n) & e
+    1 <= n && n == s.len()
+}
+
+fn is_mark(b: u8) -> bool
+    ensures { result ≡ ((b == 101) || (b == 69)) }
+{
+    matches!(b, b'e' | b'E')
 }
 
 fn exponent(s: &[u8]) -> bool
     ensures { result ≡ Float.exponent s.now }
 {
-    let e = is_empty(s);
-    let f = first(s);
-    let d = only_digits(after_sign(part_from(s, 1)));
-    e | (((f == 101) | (f == 69)) & d)
+    if is_mark(first(s)) {
+        only_digits(after_sign(&s[1..]))
+    } else {
+        s.is_empty()
+    }
 }
 
 fn decimal(s: &[u8]) -> bool
     ensures { result ≡ Float.decimal s.now }
 {
     let n = leading_digits(s);
-    let t = part_from(s, n);
-    if first(t) == 46 {
-        let u = part_from(t, 1);
+    let t = &s[n..];
+    // A slice pattern was tried: the proof did not close, as the arm `_` lacks that the first byte is another.
+    if first(t) == b'.' {
+        let u = &t[1..];
         let m = leading_digits(u);
-        let x = exponent(part_from(u, m));
-        return (1 <= n + m) & x;
+        return 1 <= n + m && exponent(&u[m..]);
     }
-    let x = exponent(t);
-    (1 <= n) & x
+    1 <= n && exponent(t)
 }
 
 fn special(s: &[u8]) -> bool
     ensures { result ≡ Float.special s.now }
 {
-    let a = is_word(b"inf", s);
-    let b = is_word(b"infinity", s);
-    let c = is_word(b"nan", s);
-    (a | b) | c
+    is_word(b"inf", s) || is_word(b"infinity", s) || is_word(b"nan", s)
 }
 
 pub fn parses_float(s: &[u8]) -> bool
     ensures { result ≡ Float.parses_float s.now }
 {
     let t = after_sign(s);
-    let a = special(t);
-    let b = decimal(t);
-    a | b
+    special(t) || decimal(t)
 }

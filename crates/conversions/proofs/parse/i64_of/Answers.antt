@@ -1,28 +1,27 @@
 -- `conversions::parse::i64_of` meets its contract. Assumes nothing.
-use mathlib.Core.Path.{ap, ◌∙◌}
-use mathlib.Core.List.{List}
-use Prim.Native.Nat.{ℕ, ◌-◌, ◌^◌}
+use mathlib.Core.Path.{◌≡◌, ◌∙◌}
 use native.Mathlib.Omega.{arith}
-use Rattle.conversions.specs.Radix.{digits}
-use Rattle.conversions.specs.Answer.{number_is, plus_is, minus_is}
 use Rattle.numbers.proofs.Parts.{part_rest}
-use Rattle.conversions.proofs.Integers.{signed_minus, signed_plus}
+use Rattle.conversions.specs.Radix.{first_of}
+use Rattle.conversions.proofs.Integers.{plus_none, plus_some, minus_none, minus_some}
 use Rattle.conversions.proofs.parse.i64_of.Goals as goal
 
-pub slice_bounds-read_digits-count : goal.slice_bounds-read_digits-count
-slice_bounds-read_digits-count c = c.first.ensures.1 (omega arith)
-
-pub slice_bounds-read_digits-start : goal.slice_bounds-read_digits-start
-slice_bounds-read_digits-start c = c.first.ensures.1 (omega arith)
+pub returns-in_err-n : goal.returns-in_err-n
+returns-in_err-n c =
+    let m : first_of c.args.s.now ≡ 45 = omega (arith, c.first.ensures.0) in
+    c.from_residual.ensures ∙ minus_none c.args.radix c.args.s.now _ (part_rest c.args.s.now 1) m c.in_err-n.ensures
 
 pub returns-then-first-eq45 : goal.returns-then-first-eq45
 returns-then-first-eq45 c =
-    let a = c.args in
-    c.minus_of.ensures ∙ ap minus_is (c.read_digits.ensures ∙ ap (λ (l : List ℕ). number_is (digits a.radix (2 ^ 63) l)) (part_rest a.s.now 1))
-    ∙ signed_minus _ _ c.first.ensures.0 a.radix c.if-first-eq45.true
+    let m : first_of c.args.s.now ≡ 45 = omega (arith, c.first.ensures.0) in
+    minus_some c.args.radix c.args.s.now _ (part_rest c.args.s.now 1) m _ c.in_ok-n.ensures c.checked_sub_unsigned.result c.checked_sub_unsigned.ensures
+
+pub returns-in_err-read_digits : goal.returns-in_err-read_digits
+returns-in_err-read_digits c =
+    let m : first_of c.args.s.now ≡ 45 → ⊥ = λ h. omega (arith, c.first.ensures.0) in
+    c.from_residual-in_err-read_digits.ensures ∙ plus_none c.args.radix c.args.s.now _ c.after_plus.ensures m c.in_err-read_digits.ensures
 
 pub returns : goal.returns
 returns c =
-    let a = c.args in
-    c.plus_of.ensures ∙ ap plus_is (c.read_digits-2.ensures ∙ ap (λ (l : List ℕ). number_is (digits a.radix (2 ^ 63 - 1) l)) c.after_plus.ensures)
-    ∙ signed_plus _ _ c.first.ensures.0 a.radix c.if-first-eq45.false
+    let m : first_of c.args.s.now ≡ 45 → ⊥ = λ h. omega (arith, c.first.ensures.0) in
+    c.ok.ensures.value ∙ plus_some c.args.radix c.args.s.now _ c.after_plus.ensures m _ c.in_ok-read_digits.ensures c.try_from.result c.try_from.ensures

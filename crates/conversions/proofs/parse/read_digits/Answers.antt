@@ -1,44 +1,51 @@
--- `conversions::parse::read_digits` meets its contract. The invariant: the digits from i on, after n, give what all the digits give. Assumes nothing.
-use mathlib.Core.Path.{sym, ap, ◌∙◌}
+-- `conversions::parse::read_digits` meets its contract: a byte at a time. Assumes nothing.
+use mathlib.Core.Path.{◌≡◌, sym, ap, ◌∙◌}
 use native.Mathlib.Omega.{arith}
-use Rattle.conversions.specs.Radix.{up_to}
-use Rattle.conversions.specs.Answer.{number_is}
-use Rattle.conversions.proofs.Integers.{digits_is, digits_none, turn, bad, full, room, done}
+use Rattle.std.proofs.Common.{rules}
+use Rattle.std.specs.Char.{digit_value}
+use Rattle.std.specs.Prelude.{ℕ, drop, ◌+◌, ◌*◌, ◌^◌, ◌-◌, ◌<◌}
+use Rattle.conversions.specs.Radix.{up_to, number}
+use Rattle.conversions.proofs.Integers.{digits_is, digits_none, turn, bad, full, done}
 use Rattle.conversions.proofs.parse.read_digits.Goals as goal
 
-pub returns-then-s-eq0 : goal.returns-then-s-eq0
-returns-then-s-eq0 c = sym (ap number_is (digits_none _ _ _ c.if-s-eq0.true))
+pub returns-then-is_empty : goal.returns-then-is_empty
+returns-then-is_empty c = sym (digits_none c.args.radix (2 ^ 64 - 1) c.args.s.now (search rules))
 
-pub loop-i-init : goal.loop-i-init
-loop-i-init c = (omega arith, (omega arith, digits_is _ _ _ (omega (arith, c.if-s-eq0.false))))
+pub loop-b-init : goal.loop-b-init
+loop-b-init c = record { fits = omega arith; gives = digits_is c.args.radix (2 ^ 64 - 1) c.args.s.now (search rules) }
 
-pub digit-d-requires : goal.digit-d-requires
-digit-d-requires c = tt
+pub returns-in_err-d : goal.returns-in_err-d
+returns-in_err-d c =
+    let e = bad c.args.radix (2 ^ 64 - 1) (omega arith) c.args.s.now c.loop-b.n c.loop-b.b-index c.from.result (omega arith) c.from.ensures c.in_err-d.ensures.value in
+    c.from_residual.ensures ∙ sym (ap (up_to (2 ^ 64 - 1)) e) ∙ c.loop-b.invariant.gives
 
-pub returns-then-radix-d : goal.returns-then-radix-d
-returns-then-radix-d c =
-    let a = c.args in
-    let b = bad a.radix a.max (omega arith) a.s.now c.loop-i.n c.loop-i.i _ (omega arith) c.digit-d.ensures c.if-radix-d.true in
-    sym (ap number_is (sym c.loop-i.invariant.1.1 ∙ ap (up_to _) b))
+pub returns-in_err-checked_mul : goal.returns-in_err-checked_mul
+returns-in_err-checked_mul c =
+    let l : c.loop-b.n * c.args.radix < 2 ^ 64 → ⊥ = c.in_err-checked_mul.ensures in
+    let e = full c.args.radix (2 ^ 64 - 1) (omega arith) c.args.s.now c.loop-b.n c.loop-b.b-index c.from.result (omega arith) c.from.ensures c.in_ok-d.ensures.value.0 (omega (arith, l)) in
+    c.from_residual-in_err-checked_mul.ensures ∙ sym e ∙ c.loop-b.invariant.gives
 
-pub returns-then-max-d : goal.returns-then-max-d
-returns-then-max-d c =
-    let a = c.args in
-    let f = full a.radix a.max (omega arith) a.s.now c.loop-i.n c.loop-i.i _ (omega arith) c.digit-d.ensures (omega arith) (omega arith) c.if-max-d.true in
-    sym (ap number_is (sym c.loop-i.invariant.1.1 ∙ f))
+above : (a b x y : ℕ) → x ≡ a → y ≡ b → (x + y < 2 ^ 64 → ⊥) → 2 ^ 64 - 1 < a + b
+above a b x y p q h = omega (arith, h)
 
-pub overflow_mul-n : goal.overflow_mul-n
-overflow_mul-n c = omega (arith, room _ _ (omega arith) _ _ (omega arith) c.if-max-d.false)
+pub returns-in_err-n : goal.returns-in_err-n
+returns-in_err-n c =
+    let l = above (c.loop-b.n * c.args.radix) (digit_value c.from.result) _ _ c.in_ok-checked_mul.ensures.1 (c.from-in-loop-b.ensures ∙ c.in_ok-d.ensures.value.1) c.in_err-n.ensures in
+    let e = full c.args.radix (2 ^ 64 - 1) (omega arith) c.args.s.now c.loop-b.n c.loop-b.b-index c.from.result (omega arith) c.from.ensures c.in_ok-d.ensures.value.0 l in
+    c.from_residual-in_err-n.ensures ∙ sym e ∙ c.loop-b.invariant.gives
 
-pub overflow_add-n : goal.overflow_add-n
-overflow_add-n c = omega (arith, room _ _ (omega arith) _ _ (omega arith) c.if-max-d.false)
+sum : (a b x y n : ℕ) → x ≡ a → y ≡ b → n ≡ x + y → a + b ≡ n
+sum a b x y n p q e = omega arith
 
-pub loop-i-preserved : goal.loop-i-preserved
-loop-i-preserved c =
-    let a = c.args in
-    let t = turn a.radix a.max (omega arith) a.s.now c.loop-i.n c.loop-i.i _ (omega arith) c.digit-d.ensures (omega arith) in
-    (omega arith, (room _ _ (omega arith) _ _ (omega arith) c.if-max-d.false, sym (ap (up_to _) t) ∙ c.loop-i.invariant.1.1))
+pub loop-b-preserved : goal.loop-b-preserved
+loop-b-preserved c =
+    let r = c.args.radix in
+    let k = sum (c.loop-b.n * c.args.radix) (digit_value c.from.result) _ _ c.in_ok-n.n c.in_ok-checked_mul.ensures.1 (c.from-in-loop-b.ensures ∙ c.in_ok-d.ensures.value.1) c.in_ok-n.ensures.1 in
+    let t = turn c.args.radix (2 ^ 64 - 1) (omega arith) c.args.s.now c.loop-b.n c.loop-b.b-index c.from.result (omega arith) c.from.ensures c.in_ok-d.ensures.value.0 in
+    record {
+      fits = omega (arith, c.in_ok-n.ensures);
+      gives = sym (ap (up_to (2 ^ 64 - 1)) (t ∙ ap (λ (x : ℕ). number c.args.radix x (drop (c.loop-b.b-index + 1) c.args.s.now)) k)) ∙ c.loop-b.invariant.gives;
+    }
 
 pub returns : goal.returns
-returns c =
-    sym (ap number_is (sym c.loop-i.invariant.1.1 ∙ done _ _ (omega arith) _ c.loop-i.n c.loop-i.i c.loop-i-test.false c.loop-i.invariant.1.0))
+returns c = sym (done c.args.radix (2 ^ 64 - 1) (omega arith) c.args.s.now c.loop-b.n c.loop-b.b-index (omega arith) (omega arith)) ∙ c.loop-b.invariant.gives

@@ -3,10 +3,8 @@ use mathlib.Core.Path.{ap, ◌∙◌}
 use mathlib.Core.List.{List}
 use Prim.Native.Nat.{ℕ, ◌-◌, ◌^◌}
 use Rattle.conversions.specs.Radix.{digits, unsigned}
-use Rattle.conversions.specs.Answer.{number_is}
 use Rattle.conversions.proofs.parse.u64_of.Goals as goal
 
 pub returns : goal.returns
 unfolding unsigned
-returns c =
-    c.read_digits.ensures ∙ ap (λ (l : List ℕ). number_is (digits c.args.radix (2 ^ 64 - 1) l)) c.after_plus.ensures
+returns c = c.read_digits.ensures ∙ ap (λ (l : List ℕ). digits c.args.radix (2 ^ 64 - 1) l) c.after_plus.ensures

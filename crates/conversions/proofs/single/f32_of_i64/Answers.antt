@@ -29,14 +29,14 @@ module _ (x : ℤ) (m r : ℕ) (s : SFits w64 x) (e : m ≡ nat_abs (to_z w64 (o
   plus v = rw (is, v.is)
 
 pub overflow_add-result : goal.overflow_add-result
-overflow_add-result c = omega (arith, high_of _ _ _ c.ranges.x c.magnitude.ensures c.f32_of_u64.ensures)
+overflow_add-result c = omega (arith, high_of _ _ _ c.ranges.x c.unsigned_abs.ensures.value c.f32_of_u64-m.ensures)
 
 pub returns-then-x-lt0 : goal.returns-then-x-lt0
 returns-then-x-lt0 c =
-    let e = minus _ _ _ c.ranges.x c.magnitude.ensures c.f32_of_u64.ensures (is_below c.ranges.x c.if-x-lt0.true) in
+    let e = minus _ _ _ c.ranges.x c.unsigned_abs.ensures.value c.f32_of_u64-m.ensures (is_below c.ranges.x c.if-x-lt0.true) in
     record { is = e; nearest = subst (Nearest c.args.x) (sym e) (f32_of_nearest c.args.x c.ranges.x) }
 
 pub returns-else-x-lt0 : goal.returns-else-x-lt0
 returns-else-x-lt0 c =
-    let e = plus _ _ _ c.ranges.x c.magnitude-else-x-lt0.ensures c.f32_of_u64-else-x-lt0.ensures (is_above c.ranges.x c.if-x-lt0.false) in
+    let e = plus _ _ _ c.ranges.x c.unsigned_abs.ensures.value c.f32_of_u64-m.ensures (is_above c.ranges.x c.if-x-lt0.false) in
     record { is = e; nearest = subst (Nearest c.args.x) (sym e) (f32_of_nearest c.args.x c.ranges.x) }

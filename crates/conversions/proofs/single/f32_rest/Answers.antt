@@ -50,23 +50,23 @@ module _ (x : ℤ) (m p w : ℕ) (s : SFits w64 x) (e : m ≡ nat_abs (to_z w64 
       ∙ ap (λ (z : ℤ). z *ℤ pos (2 ^ 149)) (sym (to_z-of_z t ∙ q ∙ ap (λ (i : ℕ). sub_ℕ m i) w_is))
 
 pub whole_of-w-requires : goal.whole_of-w-requires
-whole_of-w-requires c = p_half _ _ _ _ c.ranges.x c.magnitude-m.ensures c.f32_of_u64.ensures refl
+whole_of-w-requires c = p_half _ _ _ _ c.ranges.x c.unsigned_abs-m.ensures.value c.f32_of_u64.ensures refl
 
 pub difference-requires : goal.difference-requires
-difference-requires c = close _ _ _ _ c.ranges.x c.magnitude-m.ensures c.f32_of_u64.ensures c.whole_of-w.ensures
+difference-requires c = close _ _ _ _ c.ranges.x c.unsigned_abs-m.ensures.value c.f32_of_u64.ensures c.whole_of-w.ensures
 
 pub difference-requires-else-x-lt0 : goal.difference-requires-else-x-lt0
 difference-requires-else-x-lt0 c =
-    let k = close _ _ _ _ c.ranges.x c.magnitude-m.ensures c.f32_of_u64.ensures c.whole_of-w.ensures in (k.1, k.0)
+    let k = close _ _ _ _ c.ranges.x c.unsigned_abs-m.ensures.value c.f32_of_u64.ensures c.whole_of-w.ensures in (k.1, k.0)
 
 pub returns-then-x-lt0 : goal.returns-then-x-lt0
 returns-then-x-lt0 c =
     let s = c.ranges.x in
-    below _ _ _ _ s c.magnitude-m.ensures c.f32_of_u64.ensures c.whole_of-w.ensures
+    below _ _ _ _ s c.unsigned_abs-m.ensures.value c.f32_of_u64.ensures c.whole_of-w.ensures
     (is_below s c.if-x-lt0.true) c.difference.result (record { sfits = c.difference.type_inv }) c.difference.ensures
 
 pub returns-else-x-lt0 : goal.returns-else-x-lt0
 returns-else-x-lt0 c =
     let s = c.ranges.x in
-    above _ _ _ _ s c.magnitude-m.ensures c.f32_of_u64.ensures c.whole_of-w.ensures
+    above _ _ _ _ s c.unsigned_abs-m.ensures.value c.f32_of_u64.ensures c.whole_of-w.ensures
     (is_above s c.if-x-lt0.false) c.difference-else-x-lt0.result (record { sfits = c.difference-else-x-lt0.type_inv }) c.difference-else-x-lt0.ensures

@@ -38,32 +38,21 @@ module _ (b : ℕ) (n : low b ≤ inf) where
       let m : 2 ^ 63 ≡ min (whole (low b)) (2 ^ 63) = omega (arith, whole_over (low b) l) in
       ap (λ (x : ℕ). neg_ℤ (pos x)) m ∙ sym (i64_of_minus b n h)
 
-pub overflow_cast-result : goal.overflow_cast-result
-overflow_cast-result c = record { sfits = small _ _ c.whole_of.ensures (omega arith) }
-
-pub returns-then-p-lt1593835520 : goal.returns-then-p-lt1593835520
-returns-then-p-lt1593835520 c =
-    let b = c.args.b in
-    plus b _ (omega arith) c.if-b-lt2147483648.true (omega arith) c.whole_of.ensures
-
-pub overflow_cast-result-then-p-lt1593835520-2 : goal.overflow_cast-result-then-p-lt1593835520-2
-overflow_cast-result-then-p-lt1593835520-2 c = record { sfits = small _ _ c.whole_of-then-p-lt1593835520-2.ensures (omega arith) }
+pub overflow_cast-n : goal.overflow_cast-n
+overflow_cast-n c = record { sfits = small _ _ c.whole_of-n.ensures (omega arith) }
 
 pub overflow_sub-result : goal.overflow_sub-result
 overflow_sub-result c =
-    let h = small _ _ c.whole_of-then-p-lt1593835520-2.ensures (omega arith) in rw (minus_is_law c.whole_of-then-p-lt1593835520-2.result h) (sfits_neg c.whole_of-then-p-lt1593835520-2.result h)
+    let h = small _ _ c.whole_of-n.ensures (omega arith) in rw (minus_is_law c.whole_of-n.result h) (sfits_neg c.whole_of-n.result h)
 
-pub returns-then-p-lt1593835520-2 : goal.returns-then-p-lt1593835520-2
-returns-then-p-lt1593835520-2 c =
-    let b = c.args.b in
-    minus b _ (omega arith) c.if-b-lt2147483648.false (omega arith) c.whole_of-then-p-lt1593835520-2.ensures
+pub returns-then-negative : goal.returns-then-negative
+returns-then-negative c = minus c.args.b _ (omega arith) (omega arith) (omega arith) c.whole_of-n.ensures
 
-pub returns-else-p-lt1593835520 : goal.returns-else-p-lt1593835520
-returns-else-p-lt1593835520 c =
-    let b = c.args.b in
-    plus_end b (omega arith) c.if-b-lt2147483648.true (omega arith)
+pub returns-else-negative : goal.returns-else-negative
+returns-else-negative c = plus c.args.b _ (omega arith) (omega arith) (omega arith) c.whole_of-n.ensures
 
-pub returns-else-p-lt1593835520-2 : goal.returns-else-p-lt1593835520-2
-returns-else-p-lt1593835520-2 c =
-    let b = c.args.b in
-    minus_end b (omega arith) c.if-b-lt2147483648.false (omega arith)
+pub returns-then-negative-2 : goal.returns-then-negative-2
+returns-then-negative-2 c = minus_end c.args.b (omega arith) (omega arith) (omega arith)
+
+pub returns-else-negative-2 : goal.returns-else-negative-2
+returns-else-negative-2 c = plus_end c.args.b (omega arith) (omega arith) (omega arith)

@@ -1,26 +1,22 @@
--- `texts::text::end_of` meets its contract: what is from e on is white space. Assumes nothing.
-use mathlib.Core.Path.{sym, ap, ◌∙◌}
+-- `texts::text::end_of` meets its contract. Assumes nothing.
+use mathlib.Core.Path.{sym}
+use native.Mathlib.Numerals.{add-one}
 use native.Mathlib.Omega.{arith}
-use lib.Seq.{take-length}
-use Rattle.texts.specs.Text.{trim_end}
-use Rattle.texts.proofs.Ends.{end_space, end_stop, end_none}
+use Rattle.std.proofs.Common.{rules, true, false}
+use Rattle.std.specs.Prelude.{◌≡◌, ◌<◌, ℕ, length, get_or}
+use Rattle.texts.specs.Text.{space}
+use Rattle.texts.proofs.Ends.{blank, end_is}
 use Rattle.texts.proofs.text.end_of.Goals as goal
 
-pub loop-e-init : goal.loop-e-init
-loop-e-init c = (omega arith, ap trim_end (take-length _))
+pub returns-in-Some : goal.returns-in-Some
+returns-in-Some c =
+    let i = c.in-Some.i in
+    let l : c.in-Some.i < length c.args.s.now = search rules in
+    let h : space (get_or c.args.s.now c.in-Some.i 0) ≡ false = search rules in
+    let k : (k : ℕ) → c.in-Some.i < k → k < length c.args.s.now → space (get_or c.args.s.now k 0) ≡ true = search rules in
+    (omega arith, rw add-one (end_is c.args.s.now c.in-Some.i l h k))
 
-pub is_space-requires : goal.is_space-requires
-is_space-requires c = tt
-
-pub returns-then-not-is_space : goal.returns-then-not-is_space
-returns-then-not-is_space c =
-    let t = sym c.is_space.ensures ∙ c.if-not-is_space.true in
-    (omega arith, sym (end_stop _ c.loop-e.e (omega arith) (omega arith) t) ∙ c.loop-e.invariant.1)
-
-pub loop-e-preserved : goal.loop-e-preserved
-loop-e-preserved c =
-    let t = sym c.is_space.ensures ∙ c.if-not-is_space.false in
-    (omega arith, sym (end_space _ c.loop-e.e (omega arith) (omega arith) t) ∙ c.loop-e.invariant.1)
-
-pub returns : goal.returns
-returns c = (c.loop-e.invariant.0, end_none _ c.loop-e.e (omega arith) c.loop-e.invariant.1)
+pub returns-in-None : goal.returns-in-None
+returns-in-None c =
+    let k : (k : ℕ) → k < length c.args.s.now → space (get_or c.args.s.now k 0) ≡ true = search rules in
+    (omega arith, sym (blank c.args.s.now k))

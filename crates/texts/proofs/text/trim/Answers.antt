@@ -25,4 +25,4 @@ slice_bounds-result-end c = sym (length-take-le _ _ c.end_of-e.ensures.0)
 pub returns : goal.returns
 unfolding trimmed
 returns c =
-    c.end_of-e.ensures.1 ∙ ap trim_end (part_rest c.args.s.now c.start_of-a.result ∙ c.start_of-a.ensures.1)
+    c.end_of-e.ensures.1 ∙ ap trim_end (part_rest c.args.s.now c.start_of.result ∙ c.start_of.ensures.1)

@@ -1,28 +1,16 @@
 -- `texts::text::until_parting` meets its contract. Assumes nothing.
-use mathlib.Core.Path.{sym, ◌∙◌}
-use native.Mathlib.Nat.{zero-add}
-use native.Mathlib.Omega.{arith}
-use Rattle.texts.proofs.Splits
+use Rattle.std.proofs.Common.{rules, refl, true, false}
+use Rattle.std.specs.Prelude.{◌≡◌}
+use Rattle.std.proofs.lemmas.Iterator.{IsFirst-from_position, YieldsList-from_slice}
+use Rattle.texts.specs.Text.{parting, until_parting}
+use Rattle.texts.proofs.First.{counted}
+use Rattle.texts.proofs.Splits.{until_stop, until_go}
 use Rattle.texts.proofs.text.until_parting.Goals as goal
 
-pub loop-i-init : goal.loop-i-init
-loop-i-init c = (omega arith, zero-add _)
-
-pub is_parting-requires : goal.is_parting-requires
-is_parting-requires c = tt
-
-pub returns-then-is_parting : goal.returns-then-is_parting
-returns-then-is_parting c =
-    let t = sym c.is_parting.ensures ∙ c.if-is_parting.true in
-    let s = c.args.s.now in
-    (omega (arith, Splits.until_here s c.loop-i.i (omega arith) t, c.loop-i.invariant.1), omega arith)
-
-pub loop-i-preserved : goal.loop-i-preserved
-loop-i-preserved c =
-    let t = sym c.is_parting.ensures ∙ c.if-is_parting.false in
-    let s = c.args.s.now in
-    (omega arith, omega (arith, Splits.until_next s c.loop-i.i (omega arith) t, c.loop-i.invariant.1))
-
 pub returns : goal.returns
+unfolding until_parting
 returns c =
-    (omega (arith, Splits.until_end c.args.s.now c.loop-i.i c.loop-i-test.false, c.loop-i.invariant.1), c.loop-i.invariant.0)
+    counted until_parting parting refl until_stop until_go c.args.s.now c.position.result
+    (IsFirst-from_position _ _ _ (λ x. parting x ≡ true) (λ x. parting x ≡ false) c.position.ensures.ran (YieldsList-from_slice c.args.s.now cc)
+    (λ x q k. search rules) (λ x q k. search rules))
+    c.unwrap_or.result c.unwrap_or.ensures
