@@ -1,18 +1,25 @@
 -- The sheet's layout, one row at a time. Assumes nothing.
+use Rattle.std.specs.Prelude.{Result, Ok, Err, fold}
 use mathlib.Core.Path.{◌≡◌, refl, sym, ap, ◌∙◌}
 use mathlib.Core.Bool.{Bool, true, false, cond, ◌&&◌}
-use mathlib.Core.Option.{none, some}
-use Prim.Native.Nat.{ℕ, suc, ◌+◌, ◌-◌, ◌≤◌, ◌<◌}
+use mathlib.Core.List.{[], ◌∷◌}
+use Prim.Native.Nat.{ℕ, suc, ◌+◌, ◌-◌, ◌≤◌, ◌<◌, max}
 use native.Mathlib.Numerals.{add-one}
 use native.Mathlib.Omega.{arith}
-use borrow.Author.Tests.{eq-eqb, ne_eqb, leb-true}
-use lib.Dec.{eqb, leb}
+use borrow.Author.Tests.{eq-eqb, ne_eqb, leb-true, ltb-true, ltb-false, lt-ltb, le-ltb}
+use lib.Dec.{eqb, leb, ltb}
 use lib.ListN.{length}
-use Rattle.numbers.specs.Words.{Bytes, read_at}
+use Rattle.numbers.specs.Words.{Bytes}
+use Rattle.value.specs.Kind.{number_of}
+use Rattle.value.specs.declared.kind.Kind.{Kind}
+use Rattle.value.specs.declared.kind.Kind.TheVariants as K
 use Rattle.value.specs.Rows.{Row, row, row_count, text_area, child_count}
-use Rattle.sheet.specs.Layout.{nameless, Walk, begin, level_at, sits, names_fit, placed, after, walks, framed, laid_out, all_below, ascii, rooted}
-use Rattle.sheet.specs.Answer.{checked, number_of}
-use Rattle.sheet.specs.declared.Sheet.TheVariants as S
+use Rattle.sheet.specs.Layout.{nameless, Walk, level_at, sits, names_fit, placed, after, walks, framed, laid_out, all_below, ascii, rooted}
+use Rattle.sheet.specs.Answer.{checked}
+use Rattle.numbers.specs.Result.{ok, refused}
+use Rattle.numbers.specs.Refusal.{answer_of}
+use Rattle.numbers.specs.declared.refusal.Refusal.{Refusal}
+use Rattle.numbers.specs.declared.refusal.Refusal.TheVariants as R
 
 -- ---- rows with no name
 
@@ -24,23 +31,21 @@ nameless_stop : (T : Bytes) (r n : ℕ) → eqb (row T r).name 0 ≡ false → n
 unfolding nameless
 nameless_stop T r n q = rw (q, nameless)
 
-module _ (T : Bytes) (r n i : ℕ) where
-  pub nameless_next : i < n → (row T (r + i)).name ≡ 0 → nameless T (r + i) (n - i) ≡ nameless T (r + (i + 1)) (n - (i + 1))
+-- n rows from r on, of which there are some, or none
+module _ (T : Bytes) (r n : ℕ) where
+  pub nameless_next : 0 < n → (row T r).name ≡ 0 → nameless T r n ≡ nameless T (r + 1) (n - 1)
   nameless_next h e =
-      let q : n - i ≡ suc (n - (i + 1)) = omega arith in
-      let p : r + (i + 1) ≡ suc (r + i) = omega arith in
-      rw (q, p) (nameless_step T (r + i) (n - (i + 1)) (eq-eqb (row T (r + i)).name 0 e))
+      let q : n ≡ suc (n - 1) = omega arith in
+      ap (nameless T r) q ∙ nameless_step T r (n - 1) (eq-eqb (row T r).name 0 e) ∙ ap (λ (x : ℕ). nameless T x (n - 1)) (sym (add-one r))
 
-  pub nameless_not : i < n → ((row T (r + i)).name ≡ 0 → ⊥) → nameless T (r + i) (n - i) ≡ false
+  pub nameless_not : 0 < n → ((row T r).name ≡ 0 → ⊥) → nameless T r n ≡ false
   nameless_not h e =
-      let q : n - i ≡ suc (n - (i + 1)) = omega arith in
-      rw q (nameless_stop T (r + i) (n - (i + 1)) (ne_eqb (row T (r + i)).name 0 e))
+      let q : n ≡ suc (n - 1) = omega arith in
+      ap (nameless T r) q ∙ nameless_stop T r (n - 1) (ne_eqb (row T r).name 0 e)
 
-  pub nameless_all : n ≤ i → nameless T (r + i) (n - i) ≡ true
+  pub nameless_all : n ≡ 0 → nameless T r n ≡ true
   unfolding nameless
-  nameless_all h =
-      let q : n - i ≡ 0 = omega arith in
-      rw q
+  nameless_all h = rw h
 
 -- ---- the walk
 
@@ -117,42 +122,68 @@ pub framed_rows : (T : Bytes) → framed T ≡ true → row_count T ≤ 16384
 unfolding framed
 framed_rows T h = bound (row_count T) 16384 (framed T) h (λ q. rw (q, and_false))
 
-module _ (T : Bytes) where
-  pub laid_frame : framed T ≡ false → false ≡ laid_out T
-  unfolding laid_out
-  laid_frame h = rw h
-
-  pub laid_name : framed T ≡ true → ((row T 0).name ≡ 0 → ⊥) → false ≡ laid_out T
-  unfolding laid_out
-  laid_name h g = rw (h, ne_eqb (row T 0).name 0 g)
-
-  pub laid_walk : (t : Bool) (n : ℕ) → framed T ≡ true → (row T 0).name ≡ 0 → n ≡ row_count T → t ≡ walks T n 0 begin → t ≡ laid_out T
-  unfolding laid_out
-  laid_walk t n h g e k = rw (h, eq-eqb (row T 0).name 0 g, ← e) k
-
-  pub check_broken : laid_out T ≡ false → S.Broken ≡ checked T
-  unfolding checked
-  check_broken h = rw h
-
-  pub check_text : laid_out T ≡ true → all_below 128 (text_area T) ≡ false → S.Text ≡ checked T
-  unfolding checked ascii
-  check_text h g = rw (h, g)
-
-  module _ (h : laid_out T ≡ true) (g : all_below 128 (text_area T) ≡ true) where
-    pub check_root : (read_at 1 T 4 ≡ 21 → ⊥) → S.Root ≡ checked T
-    unfolding checked ascii rooted row
-    check_root k = rw (h, g, ne_eqb (read_at 1 T 4) 21 k)
-
-    pub check_good : read_at 1 T 4 ≡ 21 → S.Good ≡ checked T
-    unfolding checked ascii rooted row
-    check_good k = rw (h, g, eq-eqb (read_at 1 T 4) 21 k)
-
 -- the refusals by number, in their order
-pub refusal : (T : Bytes) → number_of (checked T) ≡ cond (laid_out T) (cond (ascii T) (cond (rooted T) none (some 3)) (some 2)) (some 1)
+pub refusal : (T : Bytes) → answer_of (checked T) ≡ cond (laid_out T) (cond (ascii T) (cond (rooted T) (ok tt) (refused 3)) (refused 2)) (refused 1)
 unfolding checked
 refusal T = by (laid_out T) (ascii T) (rooted T) where
-  by : (a b c : Bool) → number_of (cond a (cond b (cond c S.Good S.Root) S.Text) S.Broken) ≡ cond a (cond b (cond c none (some 3)) (some 2)) (some 1)
+  done : Result (Unit {0}) Refusal
+  done = Ok tt
+
+  by : (a b c : Bool) → answer_of (cond a (cond b (cond c done (Err R.SheetRoot)) (Err R.SheetText)) (Err R.SheetLayout)) ≡ cond a (cond b (cond c (ok tt) (refused 3)) (refused 2)) (refused 1)
   by false b c = refl
   by true false c = refl
   by true true false = refl
   by true true true = refl
+
+-- ---- a kind's number
+
+pub known : (k : Kind) (n : ℕ) → number_of k ≡ n → leb n 21 ≡ true
+known k n e = ap (λ (x : ℕ). leb x 21) (sym e) ∙ go k where
+  go : (k : Kind) → leb (number_of k) 21 ≡ true
+  go K.Null = refl
+  go K.Bool = refl
+  go K.I8 = refl
+  go K.U8 = refl
+  go K.I16 = refl
+  go K.U16 = refl
+  go K.I32 = refl
+  go K.U32 = refl
+  go K.I64 = refl
+  go K.U64 = refl
+  go K.F32 = refl
+  go K.Vec2 = refl
+  go K.Vec3 = refl
+  go K.Vec4 = refl
+  go K.Hash = refl
+  go K.Str = refl
+  go K.Enum = refl
+  go K.Flags = refl
+  go K.Bytes = refl
+  go K.Array = refl
+  go K.Map = refl
+  go K.Struct = refl
+
+-- ---- the largest byte
+
+-- the larger of two is below n where both are
+both : (a b n : ℕ) (x : Bool) → ltb (max a b) n && x ≡ ltb a n && (ltb b n && x)
+both a b n x = go (ltb a n) (ltb b n) refl refl
+  where
+    go : (u v : Bool) → ltb a n ≡ u → ltb b n ≡ v → ltb (max a b) n && x ≡ ltb a n && (ltb b n && x)
+    go true true q r =
+        let z : max a b < n = omega (arith, ltb-true a n q, ltb-true b n r) in
+        rw (q, r, lt-ltb (max a b) n z) refl
+    go true false q r =
+        let z : n ≤ max a b = omega (arith, ltb-false b n r) in
+        rw (q, r, le-ltb (max a b) n z) refl
+    go false v q r =
+        let z : n ≤ max a b = omega (arith, ltb-false a n q) in
+        rw (q, le-ltb (max a b) n z) refl
+
+pub largest_below : (n a : ℕ) (s : Bytes) → ltb (fold max a s) n ≡ ltb a n && all_below n s
+unfolding all_below
+largest_below n a [] = go (ltb a n) where
+  go : (b : Bool) → b ≡ b && true
+  go true = refl
+  go false = refl
+largest_below n a (b ∷ s) = largest_below n (max a b) s ∙ both a b n (all_below n s)

@@ -1,13 +1,19 @@
 -- `value::edge_row` meets its contract. Assumes nothing.
-use mathlib.Core.Path.{◌∙◌}
+use mathlib.Core.Path.{◌≡◌, ap, ◌∙◌}
+use native.Mathlib.Omega.{arith}
+use Rattle.numbers.specs.Words.{Bytes}
+use Rattle.value.specs.Rows.{row, row_at, fields_at, null_row}
 use Rattle.value.proofs.Laws
 use Rattle.value.proofs.edge_row.Goals as goal
 
 pub returns-then-sheet-r : goal.returns-then-sheet-r
-returns-then-sheet-r c = c.null_row.ensures ∙ Laws.row_past c.args.sheet.now c.args.r c.if-sheet-r.true
+unfolding row
+returns-then-sheet-r c =
+    let d = c.default.ensures in
+    let e : c.default.result ≡ null_row = rw (d.0, d.1.0, d.1.1.0, d.1.1.1.0, d.1.1.1.1.0, d.1.1.1.1.1.0, d.1.1.1.1.1.1) in
+    e ∙ Laws.fields_past c.args.sheet.now (row_at c.args.r) (omega (arith, c.if-sheet-r.true))
 
 pub returns : goal.returns
+unfolding row
 returns c =
-    let a = c.args in
-    Laws.row_is_law a.sheet.now a.r _ _ _ _ _ _ _ c.read_u8-kind.ensures c.read_u24-zero3.ensures.0 c.read_u32-name.ensures
-    c.read_u32-a.ensures c.read_u32-b.ensures c.read_u32-c.ensures c.read_u32-d.ensures
+    c.row_of.ensures ∙ ap (λ (x : Bytes). fields_at x 0) c.part_from.ensures ∙ Laws.fields_behind c.args.sheet.now (row_at c.args.r)

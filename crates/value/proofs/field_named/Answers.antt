@@ -1,37 +1,31 @@
 -- `value::field_named` meets its contract. Assumes nothing.
-use mathlib.Core.Path.{sym, ap, ◌∙◌}
-use native.Mathlib.Nat.{add-zero, sub-zero}
+use mathlib.Core.Path.{◌≡◌, sym, ap, ◌∙◌}
 use native.Mathlib.Omega.{arith}
-use Rattle.value.specs.Rows
-use Rattle.value.specs.Answer
+use Prim.Native.Nat.{ℕ, ◌+◌, ◌-◌}
+use Rattle.value.specs.Rows.{field_named}
 use Rattle.value.proofs.Laws
+use Rattle.value.proofs.Laws.{members_from}
 use Rattle.value.proofs.field_named.Goals as goal
 
-pub loop-i-init : goal.loop-i-init
-unfolding Rows.fields_of Rows.field_named
-loop-i-init c = (omega arith, rw (add-zero, sub-zero))
+pub returns-then-not-is : goal.returns-then-not-is
+returns-then-not-is c = Laws.members_none c.args.sheet.now c.args.v c.is.result c.is.ensures c.args.name c.if-not-is.true
 
 pub returns-then-name_of-name : goal.returns-then-name_of-name
-unfolding Rows.fields_of Rows.field_named
 returns-then-name_of-name c =
-    let a = c.args in
-    ap Answer.found_is
-    (sym (Laws.named_here a.sheet.now a.name c.first_child-first.result c.child_count-n.result c.loop-i.i c.loop-i-test.true (sym c.name_of.ensures ∙ c.if-name_of-name.true))
-    ∙ c.loop-i.invariant.1 ∙ sym (ap (Rows.field_named a.name) (Laws.members_are c.args.sheet.now c.args.v c.first_child-first.result c.child_count-n.result (omega arith) c.first_child-first.ensures.0 c.child_count-n.ensures.0)))
+    sym (Laws.named_here c.args.sheet.now c.args.name c.loop-r.r _ (omega (arith, c.loop-r-test.true)) (sym c.name_of.ensures ∙ c.if-name_of-name.true))
+    ∙ c.loop-r.invariant
+    ∙ ap (field_named c.args.name) (Laws.members_are c.args.sheet.now c.args.v c.is.result c.is.ensures c.first_child-first.result c.child_count.result c.if-not-is.false c.first_child-first.ensures.0 c.child_count.ensures.0)
 
-pub loop-i-preserved : goal.loop-i-preserved
-unfolding Rows.fields_of Rows.field_named
-loop-i-preserved c =
-    let a = c.args in (
-      omega arith,
-      sym (Laws.named_next a.sheet.now a.name c.first_child-first.result c.child_count-n.result c.loop-i.i c.loop-i-test.true (λ e. c.if-name_of-name.false (c.name_of.ensures ∙ e)))
-          ∙ c.loop-i.invariant.1,
-    )
+pub loop-r-preserved : goal.loop-r-preserved
+loop-r-preserved c =
+    let e = c.first_child-first.result + c.child_count.result in
+    let q : e - (c.loop-r.r + 1) ≡ e - c.loop-r.r - 1 = omega arith in
+    ap (λ (x : ℕ). field_named c.args.name (members_from c.args.sheet.now (c.loop-r.r + 1) x)) q
+    ∙ sym (Laws.named_next c.args.sheet.now c.args.name c.loop-r.r _ (omega (arith, c.loop-r-test.true)) (λ e. c.if-name_of-name.false (c.name_of.ensures ∙ e)))
+    ∙ c.loop-r.invariant
 
 pub returns : goal.returns
-unfolding Rows.fields_of Rows.field_named
 returns c =
-    let a = c.args in
-    ap Answer.found_is
-    (sym (Laws.named_none a.sheet.now a.name c.first_child-first.result c.child_count-n.result c.loop-i.i c.loop-i-test.false)
-    ∙ c.loop-i.invariant.1 ∙ sym (ap (Rows.field_named a.name) (Laws.members_are c.args.sheet.now c.args.v c.first_child-first.result c.child_count-n.result (omega arith) c.first_child-first.ensures.0 c.child_count-n.ensures.0)))
+    sym (Laws.named_none c.args.sheet.now c.args.name c.loop-r.r _ (omega (arith, c.loop-r-test.false)))
+    ∙ c.loop-r.invariant
+    ∙ ap (field_named c.args.name) (Laws.members_are c.args.sheet.now c.args.v c.is.result c.is.ensures c.first_child-first.result c.child_count.result c.if-not-is.false c.first_child-first.ensures.0 c.child_count.ensures.0)

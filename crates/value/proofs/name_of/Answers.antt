@@ -17,4 +17,4 @@ overflow_add-r-2 c = search rules
 
 pub returns : goal.returns
 unfolding Rows.row
-returns c = c.read_u32.ensures
+returns c = c.read.ensures

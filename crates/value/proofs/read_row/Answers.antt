@@ -1,11 +1,15 @@
 -- `value::read_row` meets its contract. Assumes nothing.
+use mathlib.Core.Path.{◌≡◌, ap, ◌∙◌}
+use Prim.Native.Nat.{ℕ, ◌+◌, ◌-◌}
+use lib.ListN.{take, drop}
 use native.Mathlib.Omega.{arith}
-use Rattle.numbers.proofs.Parts.{read_one}
+use Rattle.value.specs.Rows.{row, row_at, fields_at}
 use Rattle.value.proofs.Laws
 use Rattle.value.proofs.read_row.Goals as goal
 
 pub returns : goal.returns
+unfolding row
 returns c =
     let a = c.args in
-    Laws.row_is_law a.sheet.now a.r _ _ _ _ _ _ _ (read_one _ _ (omega (arith, c.if-left-r.false, c.left.ensures))) c.u24_at-zero3.ensures.0 c.u32_at-name.ensures
-    c.u32_at-a.ensures c.u32_at-b.ensures c.u32_at-c.ensures c.u32_at-d.ensures
+    let n : (row_at a.r + 24) - row_at a.r ≡ 24 = omega arith in
+    c.row_of.ensures ∙ ap (λ (x : ℕ). fields_at (take x (drop (row_at a.r) a.sheet.now)) 0) n ∙ Laws.fields_within a.sheet.now (row_at a.r)
