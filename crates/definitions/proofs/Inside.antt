@@ -1,29 +1,30 @@
 -- Where a definition is found lies in the file. Assumes nothing.
+use Rattle.std.specs.Prelude.{Option, Some, None}
+use Rattle.std.specs.Option.{option_or}
 use mathlib.Core.Path.{◌≡◌, refl, sym, subst}
 use mathlib.Core.Bool.{Bool, true, false, cond, ◌&&◌}
 use mathlib.Core.List.{List, [], ◌∷◌, map}
-use mathlib.Core.Option.{Option, none, some}
 use Prim.Native.Nat.{ℕ, zero, suc, ◌+◌, ◌≤◌, ◌<◌}
 use native.Mathlib.Omega.{arith}
 use lib.Dec.{ltb, eqb}
 use lib.ListN.{length, take, drop}
 use borrow.Author.Tests.{ltb-true}
 use Rattle.numbers.specs.Words.{Bytes, read_at}
-use Rattle.numbers.specs.Result.{or_else, Every}
+use Rattle.numbers.specs.Result.{Every}
 use Rattle.numbers.proofs.Bytes.{every_append}
 use Rattle.schema.specs.Sections.{PSCH, sections_from, sections}
 use Rattle.schema.specs.Index.{index_count, kept, places_from, places_in, section_places, places_of, last_of, last_place}
 use Rattle.schema.proofs.Walk.{by_sections}
 
 module _ {A : Type 0} (Q : A → Type 0) where
-  pub last_has : (l : List A) → Every Q l → (a : A) → last_of l ≡ some a → Q a
+  pub last_has : (l : List A) → Every Q l → (a : A) → last_of l ≡ Some a → Q a
   unfolding last_of
   last_has [] h a e = absurd (let z : ◌≡◌ {A = ℕ} 0 1 = cc in omega arith)
   last_has (x ∷ l) h a e = go (last_of l) (last_has l h.1 a) e
     where
-      go : (o : Option A) → (o ≡ some a → Q a) → or_else o (some x) ≡ some a → Q a
-      go (some y) g f = g f
-      go none g f = let y : x ≡ a = cc in subst Q y h.0
+      go : (o : Option A) → (o ≡ Some a → Q a) → option_or o (Some x) ≡ Some a → Q a
+      go (Some y) g f = g f
+      go None g f = let y : x ≡ a = cc in subst Q y h.0
 
 module _ (P : Bytes) (kind name : ℕ) where
   one_inside : (nm q : ℕ) (l : List ℕ) → Every (λ x. x < length P) l
@@ -66,6 +67,6 @@ module _ (F : Bytes) (kind name : ℕ) where
       every_append (λ x. x < length F) (map (at +◌) ps) (places_of kind name ss (at + length P))
       (moved_inside at (length P) (length F) ps (omega (arith, l, i)) (section_inside P kind name (read_at 4 F at))) (subst (λ x. Inside (places_of kind name ss (at + x))) (sym l) ih)
 
-  pub last_inside : (at : ℕ) → last_place F kind name ≡ some at → at < length F
+  pub last_inside : (at : ℕ) → last_place F kind name ≡ Some at → at < length F
   unfolding last_place sections
   last_inside at e = last_has (λ x. x < length F) (places_of kind name (sections F) 0) (all_inside (length F) 0) at e

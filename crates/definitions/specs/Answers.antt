@@ -1,28 +1,19 @@
 -- The code's answers in the terms of the definitions.
-use Rattle.std.specs.Prelude.{ℕ, ◌+◌}
-use Rattle.std.proofs.Math.Option.{Option, none, some}
+use Rattle.std.specs.Prelude.{ℕ, ◌+◌, Option, option_map}
 use Rattle.numbers.specs.Words.{Bytes, read_at}
-use Rattle.numbers.specs.Result.{map_option}
 use Rattle.schema.specs.Defs
 use Rattle.schema.specs.Psch.{struct_here, enum_here}
-use Rattle.definitions.specs.declared.lookup.Found.{Found}
-use Rattle.definitions.specs.declared.lookup.Found.TheVariants.{At, Nothing}
 use Rattle.definitions.specs.declared.members.Head.{Head}
 use Rattle.definitions.specs.declared.members.Member.{Member}
 use Rattle.definitions.specs.declared.members.Entry.{Entry}
 
--- a place in the file, or none
-abbrev pub found_is : Found → Option ℕ
-found_is (At at) = some at
-found_is Nothing = none
-
 -- the structure at the place found
-abbrev pub struct_found : Bytes → ℕ → Found → Option Defs.StructDef
-struct_found F name r = map_option (struct_here F name) (found_is r)
+abbrev pub struct_found : Bytes → ℕ → Option ℕ → Option Defs.StructDef
+struct_found F name r = option_map (struct_here F name) r
 
 -- the enum at the place found
-abbrev pub enum_found : Bytes → ℕ → Found → Option Defs.EnumDef
-enum_found F name r = map_option (enum_here F name) (found_is r)
+abbrev pub enum_found : Bytes → ℕ → Option ℕ → Option Defs.EnumDef
+enum_found F name r = option_map (enum_here F name) r
 
 -- "unknown byte, 2-byte member count, size" of the structure at a place
 abbrev pub head_here : Bytes → ℕ → Head

@@ -1,10 +1,10 @@
-// What stands at a definition's place: its numbers, its members or entries.
+// What stands at a definition's place: its numbers, its members or entries. Where the file ends before, they are 0.
 ghost use Rattle.std.specs.Prelude.{◌≡◌, ◌+◌, ◌*◌, ◌^◌, ◌<◌};
 ghost use Rattle.numbers.specs.Words.{read_at};
 ghost use Rattle.schema.specs.Psch.{member_at};
 ghost use Rattle.definitions.specs.Answers.{head_here, member_is, entry_here};
 
-use numbers::words::{read_u8, read_u16, read_u24, read_u32};
+use numbers::words::{part_from, read, read_number};
 
 // A structure's numbers besides its members.
 #[derive(Clone, Copy)]
@@ -18,20 +18,11 @@ pub struct Head {
 pub fn read_head(file: &[u8], place: usize) -> Head
     ensures { result ≡ head_here file.now place }
 {
-    if file.len() < place {
-        return Head {
-            unknown: 0,
-            count: 0,
-            size: 0,
-        };
-    }
-    let unknown = read_u8(file, place + 1);
-    let count = read_u16(file, place + 2);
-    let size = read_u32(file, place + 4);
+    let here = part_from(file, place);
     Head {
-        unknown: unknown,
-        count: count,
-        size: size,
+        unknown: read::<u8>(here, 1),
+        count: read::<u16>(here, 2),
+        size: read::<u32>(here, 4),
     }
 }
 
@@ -48,27 +39,13 @@ pub struct Member {
 pub fn read_member(file: &[u8], place: usize, k: u32) -> Member
     ensures { result ≡ member_is (member_at file.now (place + 12 + 12 * k)) }
 {
-    if file.len() < place {
-        return Member {
-            name: 0,
-            kind: 0,
-            subtype: 0,
-            offset: 0,
-            reference: 0,
-        };
-    }
-    let at = place + 12 + 12 * (k as usize);
-    let name = read_u32(file, at);
-    let kind = read_u8(file, at + 4);
-    let subtype = read_u8(file, at + 5);
-    let offset = read_u16(file, at + 6);
-    let reference = read_u32(file, at + 8);
+    let here = part_from(file, place.saturating_add(12 + 12 * (k as usize)));
     Member {
-        name: name,
-        kind: kind,
-        subtype: subtype,
-        offset: offset,
-        reference: reference,
+        name: read::<u32>(here, 0),
+        kind: read::<u8>(here, 4),
+        subtype: read::<u8>(here, 5),
+        offset: read::<u16>(here, 6),
+        reference: read::<u32>(here, 8),
     }
 }
 
@@ -76,10 +53,7 @@ pub fn read_member(file: &[u8], place: usize, k: u32) -> Member
 pub fn entry_count(file: &[u8], place: usize) -> u32
     ensures { (result ≡ read_at 3 file.now (place + 1)) × (result < 2 ^ 24) }
 {
-    if file.len() < place {
-        return 0;
-    }
-    read_u24(file, place + 1)
+    read_number(part_from(file, place), 1, 3) as u32
 }
 
 #[derive(Clone, Copy)]
@@ -92,14 +66,9 @@ pub struct Entry {
 pub fn read_entry(file: &[u8], place: usize, k: u32) -> Entry
     ensures { result ≡ entry_here file.now (place + 4 + 8 * k) }
 {
-    if file.len() < place {
-        return Entry { name: 0, value: 0 };
-    }
-    let at = place + 4 + 8 * (k as usize);
-    let name = read_u32(file, at);
-    let value = read_u32(file, at + 4);
+    let here = part_from(file, place.saturating_add(4 + 8 * (k as usize)));
     Entry {
-        name: name,
-        value: value,
+        name: read::<u32>(here, 0),
+        value: read::<u32>(here, 4),
     }
 }

@@ -1,8 +1,8 @@
 -- What the reader gives: the blocks of the sections, and the definitions of the schema file. Assumes nothing.
+use Rattle.std.specs.Prelude.{Option, Some, None}
 use mathlib.Core.Path.{◌≡◌, refl, sym, ap, ◌∙◌}
 use mathlib.Core.Bool.{Bool, true, false, cond, not, ◌||◌}
 use mathlib.Core.List.{List, [], ◌++◌, append_assoc, append-nil}
-use mathlib.Core.Option.{Option, none, some}
 use Prim.Native.Nat.{ℕ}
 use native.Mathlib.Omega.{arith}
 use lib.Dec.{ltb, eqb}
@@ -95,14 +95,14 @@ from_seen F t p a = go t.data' t.root
   where
     go : (d : Option Bytes) (r : Option ℕ)
         → and_then (needed d 17) (λ P. and_then (needed r 18) (λ n. ok (record { root = n; data' = P; blocks = t.blocks; schema = schema_from t.defs }))) ≡ ok p → Given F p
-    go (some P) (some n) e =
+    go (Some P) (Some n) e =
         let f : record { root = n; data' = P; blocks = t.blocks; schema = schema_from t.defs } ≡ p = cc in
         record {
           blocks = ap (λ (x : Pso). x.blocks) (sym f) ∙ a.blocks_joined;
           schema = rw a.is (ap ok (ap schema_from (sym a.defs_joined) ∙ ap (λ (x : Pso). x.schema) f));
         }
-    go (some P) none e = absurd (let z : ◌≡◌ {A = ℕ} 0 1 = cc in omega arith)
-    go none r e = absurd (let z : ◌≡◌ {A = ℕ} 0 1 = cc in omega arith)
+    go (Some P) None e = absurd (let z : ◌≡◌ {A = ℕ} 0 1 = cc in omega arith)
+    go None r e = absurd (let z : ◌≡◌ {A = ℕ} 0 1 = cc in omega arith)
 
 from_sections : (F : Bytes) (p : Pso) (X : Result Seen) → see_all (sections F) nothing_seen ≡ X → and_then X pso_from ≡ ok p → Given F p
 unfolding and_then

@@ -1,6 +1,5 @@
 -- The blocks of any file, by number.
-use Rattle.std.specs.Prelude.{ℕ, zero, suc, cond, List, [], ◌++◌, eqb}
-use Rattle.std.proofs.Math.Option.{Option, none}
+use Rattle.std.specs.Prelude.{ℕ, zero, suc, cond, List, [], ◌++◌, eqb, Option, None}
 use Rattle.numbers.specs.Words.{Bytes}
 use Rattle.numbers.specs.Result.{Result, ok, refused, nth}
 use Rattle.schema.specs.Sections.{Sections, section, end, broken, PMAP}
@@ -8,7 +7,7 @@ use Rattle.pso.specs.Reader.{Block, pmap_of}
 
 -- "block number (from 1)"
 abbrev pub numbered : List Block → ℕ → Option Block
-numbered bs zero = none
+numbered bs zero = None
 numbered bs (suc n) = nth bs n
 
 -- the rows, or none where they are refused (16)

@@ -1,155 +1,106 @@
 // The blocks of a file, by number.
-ghost use Rattle.std.specs.Prelude.{◌≡◌, ◌+◌, ◌≤◌, length, take, drop};
-ghost use Rattle.std.proofs.Math.Option.{some};
+ghost use Rattle.std.specs.Prelude.{◌≡◌, ◌+◌, ◌*◌, ◌≤◌, length, option_map};
 ghost use Rattle.numbers.specs.Words.{read_at};
 ghost use Rattle.numbers.specs.Result.{ok, nth};
+ghost use Rattle.numbers.specs.Refusal.{answer_of};
 ghost use Rattle.schema.specs.Sections.{sections};
 ghost use Rattle.pso.specs.Reader.{Pso, is_later, block_at, parse_pso};
 ghost use Rattle.pso.specs.Blocks.{numbered, section_blocks, blocks_of};
-ghost use Rattle.pso.specs.Answers.{table_of, row_is};
+ghost use Rattle.pso.specs.Answers.{table_of, row_of};
 ghost use Rattle.pso.specs.Steps.{Spans};
 
-use numbers::words::{is_name, read_u16, read_u32};
-use schema::cursor::{Cursor, Step};
+use numbers::refusal::Refusal;
+use numbers::words::read;
+use schema::cursor::{Cursor, Section};
 
-// The rows of a PMAP section.
+// The rows of a PMAP section: where they start in it, and how many there are.
 #[derive(Clone, Copy)]
-pub enum Rows {
-    // The root number, where the rows start in the section, and how many there are.
-    Table {
-        root: u32,
-        start: usize,
-        count: usize,
-    },
-    // 16.
-    Short,
+pub struct Rows {
+    pub root: u32,
+    pub start: usize,
+    pub count: usize,
 }
 
 // Whether the count is 0 or has its top bit set: the later layout.
 fn is_later(p: &[u8]) -> bool
     ensures { result ≡ is_later p.now }
 {
-    let n = read_u16(p, 12);
-    (n == 0) | (0x8000 <= n)
+    let n = read::<u16>(p, 12);
+    n == 0 || 0x8000 <= n
 }
 
-// The rows of a PMAP section, or 16.
-pub fn read_rows(p: &[u8]) -> Rows
-    ensures { result ≡ table_of p.now }
+// The rows of a PMAP section.
+pub fn read_rows(p: &[u8]) -> Result<Rows, Refusal>
+    ensures { answer_of result ≡ table_of p.now }
 {
-    if p.len() < 16 {
-        return Rows::Short;
+    let (start, count) = if is_later(p) {
+        (24, read::<u16>(p, 16) as usize)
+    } else {
+        (16, read::<u16>(p, 12) as usize)
+    };
+    if p.len() < start + 16 * count {
+        return Err(Refusal::MapLength);
     }
-    let root = read_u32(p, 8);
-    if is_later(p) {
-        if p.len() < 24 {
-            return Rows::Short;
-        }
-        let n = read_u16(p, 16) as usize;
-        if p.len() < 24 + 16 * n {
-            return Rows::Short;
-        }
-        return Rows::Table {
-            root: root,
-            start: 24,
-            count: n,
-        };
-    }
-    let n = read_u16(p, 12) as usize;
-    if p.len() < 16 + 16 * n {
-        return Rows::Short;
-    }
-    Rows::Table {
-        root: root,
-        start: 16,
-        count: n,
-    }
+    Ok(Rows {
+        root: read::<u32>(p, 8),
+        start,
+        count,
+    })
 }
 
 // A block: its name, its place in the data section and its length.
 #[derive(Clone, Copy)]
-pub enum Row {
-    Found { name: u32, place: u32, len: u32 },
-    Nothing,
+pub struct Row {
+    pub name: u32,
+    pub place: u32,
+    pub len: u32,
 }
 
-// The row at a place of the file.
-fn row_at(file: &[u8], at: usize) -> Row
-    requires { at + 16 ≤ length file.now }
-    ensures { row_is result ≡ some (block_at file.now at) }
+// The row at a place of a PMAP section.
+fn row_at(p: &[u8], at: usize) -> Row
+    requires { at + 16 ≤ length p.now }
+    ensures { result ≡ row_of (block_at p.now at) }
 {
-    let name = read_u32(file, at);
-    let place = read_u32(file, at + 4);
-    let len = read_u32(file, at + 12);
-    Row::Found {
-        name: name,
-        place: place,
-        len: len,
+    Row {
+        name: read::<u32>(p, at),
+        place: read::<u32>(p, at + 4),
+        len: read::<u32>(p, at + 12),
     }
 }
 
-// Where rows start in the file, and how many there are.
-#[derive(Clone, Copy)]
-pub struct Span {
-    pub start: usize,
-    pub count: usize,
-}
-
-// The rows of a section: another than PMAP has none, nor has one that is too short.
-fn span_of(file: &[u8], place: usize, len: usize) -> Span
-    requires { place + len ≤ length file.now }
-    ensures { Spans file.now (section_blocks (read_at 4 file.now place) (take len (drop place file.now))) result }
+// The rows of a section: none, where it is another than PMAP or too short.
+fn rows_of(section: Section) -> Option<Rows>
+    ensures { let P = section.entry.bytes.now in Spans P (section_blocks (read_at 4 P 0) P) result }
 {
-    if !is_name(file, place, b"PMAP") {
-        return Span { start: 0, count: 0 };
-    }
-    let stop = place + len;
-    let r = read_rows(&file[place..stop]);
-    match r {
-        Rows::Short => Span { start: 0, count: 0 },
-        Rows::Table { root, start, count } => Span {
-            start: place + start,
-            count: count,
-        },
+    if section.is(b"PMAP") {
+        read_rows(section.bytes).ok()
+    } else {
+        None
     }
 }
 
 // The row n, from 0, over all PMAP sections.
-fn nth_row(file: &[u8], n: usize) -> Row
-    ensures { row_is result ≡ nth (blocks_of (sections file.now)) n }
+fn nth_row(file: &[u8], n: usize) -> Option<Row>
+    ensures { result ≡ option_map row_of (nth (blocks_of (sections file.now)) n) }
 {
-    let mut c = Cursor::new();
+    let mut cursor = Cursor::new(file);
     let mut k = n;
-    loop {
-        let q = c.step(file);
-        match q {
-            Step::End => {
-                return Row::Nothing;
+    while let Some((section, next)) = cursor.step().unwrap_or(None) {
+        if let Some(rows) = rows_of(section) {
+            if k < rows.count {
+                return Some(row_at(section.bytes, rows.start + 16 * k));
             }
-            Step::Broken => {
-                return Row::Nothing;
-            }
-            Step::Section { place, len, next } => {
-                let w = span_of(file, place, len);
-                let start = w.start;
-                let count = w.count;
-                if k < count {
-                    return row_at(file, start + 16 * k);
-                }
-                k -= count;
-                c = next;
-            }
+            k -= rows.count;
         }
+        cursor = next;
     }
+    None
 }
 
 // The block of a number, from 1.
-pub fn block(file: &[u8], number: usize) -> Row
-    ensures result_value { row_is result ≡ numbered (blocks_of (sections file.now)) number }
-    ensures number_value { (p : Pso) → parse_pso file.now ≡ ok p → numbered p.blocks number ≡ row_is result }
+pub fn block(file: &[u8], number: usize) -> Option<Row>
+    ensures result_value { result ≡ option_map row_of (numbered (blocks_of (sections file.now)) number) }
+    ensures number_value { (p : Pso) → parse_pso file.now ≡ ok p → result ≡ option_map row_of (numbered p.blocks number) }
 {
-    if number == 0 {
-        return Row::Nothing;
-    }
-    nth_row(file, number - 1)
+    nth_row(file, number.checked_sub(1)?)
 }

@@ -2,21 +2,21 @@
 use mathlib.Core.Path.{◌≡◌, refl, sym, ap, ◌∙◌}
 use mathlib.Core.Bool.{Bool, true, false, cond, ◌||◌}
 use mathlib.Core.List.{List, [], ◌∷◌, ◌++◌}
+use Rattle.std.specs.Prelude.{Ok, Err}
 use Prim.Native.Nat.{ℕ, zero, suc, ◌+◌, ◌-◌, ◌*◌, ◌≤◌, ◌<◌}
 use native.Mathlib.Omega.{arith}
 use lib.Dec.{eqb}
-use lib.ListN.{length, take, drop, length-append}
-use borrow.Author.Tests.{lt-ltb, le-ltb}
+use lib.ListN.{length, length-append}
 use Rattle.numbers.specs.Words.{Bytes, read_at}
 use Rattle.numbers.specs.Result.{Result, ok, refused, and_then, map_result}
 use Rattle.schema.specs.Sections.{Sections, section, end, broken, sections, PSCH}
 use Rattle.schema.specs.Defs.{index_entries}
 use Rattle.schema.specs.Psch.{Def, structure, enumeration, past, outside, def_at, defs_from, psch_of, section_defs, defs_of, schema_from, schema_of}
-use Rattle.schema.specs.Steps.{rest, def_here, judged}
-use Rattle.schema.specs.Answers.{checked_is}
-use Rattle.schema.specs.declared.check.Checked.{Checked}
-use Rattle.schema.specs.declared.check.Checked.TheVariants as C
-use Rattle.schema.proofs.Judge.{inside}
+use Rattle.schema.specs.Steps.{rest, kind_number, def_here, judged}
+use Rattle.numbers.specs.Refusal.{number_of}
+use Rattle.numbers.specs.declared.refusal.Refusal.{Refusal}
+use Rattle.schema.specs.declared.kind.Kind.{Kind}
+use Rattle.schema.proofs.Judge.{inside, Refuses}
 use Rattle.schema.proofs.Walk.{rest_all}
 
 -- i definitions and those that are left
@@ -35,26 +35,25 @@ module _ (P : Bytes) where
   abbrev whole : Result ℕ
   whole = map_result length (psch_of P)
 
-  pub psch_short : length P < 12 → C.Refused 5 ≡ checked_is whole
+  pub psch_short : (e : Refusal) → Refuses (past P 1 12) e → refused (number_of e) ≡ whole
   unfolding psch_of map_result
-  psch_short h = rw (lt-ltb (length P) 12 h, psch_of)
+  psch_short e r = rw (r.past, r.five, psch_of)
 
-  module _ (n : ℕ) (h : 12 ≤ length P) (e : n ≡ read_at 4 P 8) where
-    pub psch_past : past P n (12 + 8 * n) ≡ true → C.Refused 5 ≡ checked_is whole
+  module _ (h : past P 1 12 ≡ false) (n : ℕ) (q : n ≡ read_at 4 P 8) where
+    pub psch_past : (e : Refusal) → Refuses (past P n (12 + 8 * n)) e → refused (number_of e) ≡ whole
     unfolding psch_of map_result
-    psch_past q = rw (le-ltb (length P) 12 h, ← e, q, psch_of)
+    psch_past e r = rw (h, ← q, r.past, r.five, psch_of)
 
     psch_goes : past P n (12 + 8 * n) ≡ false → psch_of P ≡ defs_from P n 12
     unfolding psch_of
-    psch_goes q = rw (le-ltb (length P) 12 h, ← e, q, psch_of)
+    psch_goes r = rw (h, ← q, r, psch_of)
 
     pub begin : past P n (12 + 8 * n) ≡ false → map_result (more 0) (defs_from P (n - 0) (12 + 8 * 0)) ≡ whole
-    begin q =
+    begin r =
         let z : n - 0 ≡ n = omega arith in
-        rw (z, ← psch_goes q) (none_more (psch_of P))
+        rw (z, ← psch_goes r) (none_more (psch_of P))
 
-  module _ (n i place kind : ℕ) (lt : i < n) (b : place ≡ read_at 4 P (12 + 8 * i + 4)) (j : (name : ℕ) → def_at P name place ≡ judged P name place kind)
-      (g : map_result (more i) (defs_from P (n - i) (12 + 8 * i)) ≡ whole) where
+  module _ (n i place : ℕ) (lt : i < n) (b : place ≡ read_at 4 P (12 + 8 * i + 4)) (g : map_result (more i) (defs_from P (n - i) (12 + 8 * i)) ≡ whole) where
     left : n - i ≡ suc (n - (i + 1))
     left = omega arith
 
@@ -65,50 +64,44 @@ module _ (P : Bytes) where
         rw e (ap ok f)
     one_more X d (refused n) e = rw e
 
-    pub turn : kind ≤ 1 → map_result (more (i + 1)) (defs_from P (n - (i + 1)) (12 + 8 * (i + 1))) ≡ whole
-    unfolding defs_from
-    turn k =
+    pub turn : (k : Kind) → ((name : ℕ) → def_at P name place ≡ judged P name place (Ok k)) → map_result (more (i + 1)) (defs_from P (n - (i + 1)) (12 + 8 * (i + 1))) ≡ whole
+    unfolding defs_from map_result
+    turn k j =
         let f : 12 + 8 * i + 8 ≡ 12 + 8 * (i + 1) = omega arith in
         sym
         (sym g ∙ ap (λ (x : ℕ). map_result (more i) (defs_from P x (12 + 8 * i))) left
-        ∙ one_more (def_at P (read_at 4 P (12 + 8 * i)) (read_at 4 P (12 + 8 * i + 4))) (def_here P kind (read_at 4 P (12 + 8 * i)) place) (defs_from P (n - (i + 1)) (12 + 8 * i + 8))
-        (rw (← b) (j (read_at 4 P (12 + 8 * i)) ∙ rw (lt-ltb kind 2 (omega arith))))
+        ∙ one_more (def_at P (read_at 4 P (12 + 8 * i)) (read_at 4 P (12 + 8 * i + 4))) (def_here P (kind_number k) (read_at 4 P (12 + 8 * i)) place)
+        (defs_from P (n - (i + 1)) (12 + 8 * i + 8)) (rw (← b) (j (read_at 4 P (12 + 8 * i))))
         ∙ ap (λ (x : ℕ). map_result (more (i + 1)) (defs_from P (n - (i + 1)) x)) f)
 
-    stops : (X : Result Def) (Y : Result (List Def)) → X ≡ refused kind → map_result (more i) (and_then X (λ a. map_result (a ∷◌) Y)) ≡ refused kind
+    stops : (m : ℕ) (X : Result Def) (Y : Result (List Def)) → X ≡ refused m → map_result (more i) (and_then X (λ a. map_result (a ∷◌) Y)) ≡ refused m
     unfolding and_then map_result
-    stops X Y e = rw e
+    stops m X Y e = rw e
 
-    pub stop : 1 < kind → C.Refused kind ≡ checked_is whole
-    unfolding defs_from
-    stop k =
-        ap checked_is
-        (sym
+    pub stop : (e : Refusal) → ((name : ℕ) → def_at P name place ≡ judged P name place (Err e)) → refused (number_of e) ≡ whole
+    unfolding defs_from map_result
+    stop e j =
+        sym
         (sym g ∙ ap (λ (x : ℕ). map_result (more i) (defs_from P x (12 + 8 * i))) left
-        ∙ stops (def_at P (read_at 4 P (12 + 8 * i)) (read_at 4 P (12 + 8 * i + 4))) (defs_from P (n - (i + 1)) (12 + 8 * i + 8))
-        (rw (← b) (j (read_at 4 P (12 + 8 * i)) ∙ rw (le-ltb kind 2 (omega arith))))))
+        ∙ stops (number_of e) (def_at P (read_at 4 P (12 + 8 * i)) (read_at 4 P (12 + 8 * i + 4))) (defs_from P (n - (i + 1)) (12 + 8 * i + 8))
+        (rw (← b) (j (read_at 4 P (12 + 8 * i)))))
 
-  pub finish : (n i : ℕ) → i ≤ n → n ≤ i → map_result (more i) (defs_from P (n - i) (12 + 8 * i)) ≡ whole → C.Sound n ≡ checked_is whole
+  pub finish : (n : ℕ) → map_result (more n) (defs_from P (n - n) (12 + 8 * n)) ≡ whole → ok n ≡ whole
   unfolding defs_from map_result
-  finish n i le ge g =
-      let z : n - i ≡ 0 = omega arith in
-      let e : i + 0 ≡ n = omega arith in
-      ap checked_is (ap ok (sym e) ∙ ap (λ (x : ℕ). map_result (more i) (defs_from P x (12 + 8 * i))) (sym z) ∙ g)
+  finish n g =
+      let z : n - n ≡ 0 = omega arith in
+      let e : n + 0 ≡ n = omega arith in
+      ap ok (sym e) ∙ ap (λ (x : ℕ). map_result (more n) (defs_from P x (12 + 8 * n))) (sym z) ∙ g
 
 -- ---- a section of a file
-module _ (F : Bytes) (place len : ℕ) where
-  abbrev part : Bytes
-  part = take len (drop place F)
+module _ (P : Bytes) (t : Bool) (e : t ≡ eqb (read_at 4 P 0) PSCH) where
+  pub other : t ≡ false → ok 0 ≡ map_result length (section_defs (read_at 4 P 0) P)
+  unfolding section_defs map_result
+  other f = rw (← e, f, section_defs)
 
-  module _ (t : Bool) (e : t ≡ eqb (read_at 4 F place) PSCH) where
-    pub other : t ≡ false → C.Sound 0 ≡ checked_is (map_result length (section_defs (read_at 4 F place) part))
-    unfolding section_defs map_result
-    other f = rw (← e, f, section_defs)
-
-    pub psch : t ≡ true → (p : Bytes) → p ≡ part → (r : Checked) → r ≡ checked_is (map_result length (psch_of p))
-        → r ≡ checked_is (map_result length (section_defs (read_at 4 F place) part))
-    unfolding section_defs
-    psch f p q r g = rw (← e, f, section_defs) (g ∙ ap (λ (x : Bytes). checked_is (map_result length (psch_of x))) q)
+  pub psch : t ≡ true → (X : Result ℕ) → X ≡ map_result length (psch_of P) → X ≡ map_result length (section_defs (read_at 4 P 0) P)
+  unfolding section_defs
+  psch f X g = rw (← e, f, section_defs) g
 
 -- ---- a definition has an index entry of 8 bytes
 with_one : (n : ℕ) (ds : List Def) (X : Result Def) (Y : Result (List Def)) → ((es : List Def) → Y ≡ ok es → length es ≡ n)
@@ -202,59 +195,52 @@ pub record Sound (X : Result (List Def)) (n : ℕ) : Type 0 where
   pub is : X ≡ ok defs
   pub count : length defs ≡ n
 
-pub sound : (X : Result (List Def)) (r : Checked) (n : ℕ) → r ≡ checked_is (map_result length X) → r ≡ C.Sound n → Sound X n
+pub sound : (X : Result (List Def)) (n : ℕ) → ok n ≡ map_result length X → Sound X n
 unfolding map_result
-sound (ok ds) r n e q = record { defs = ds; is = refl; count = cc }
-sound (refused m) r n e q = absurd (let z : ◌≡◌ {A = ℕ} 0 1 = cc in omega arith)
+sound (ok ds) n e = record { defs = ds; is = refl; count = cc }
+sound (refused m) n e = absurd (let z : ◌≡◌ {A = ℕ} 0 1 = cc in omega arith)
 
-pub not_sound : (X : Result (List Def)) (r : Checked) (n : ℕ) → r ≡ checked_is (map_result length X) → r ≡ C.Refused n → X ≡ refused n
+pub not_sound : (X : Result (List Def)) (n : ℕ) → refused n ≡ map_result length X → X ≡ refused n
 unfolding map_result
-not_sound (ok ds) r n e q = cc
-not_sound (refused m) r n e q = cc
+not_sound (ok ds) n e = cc
+not_sound (refused m) n e = cc
 
 module _ (F : Bytes) where
   abbrev all : Result ℕ
   all = map_result index_entries (schema_of F)
 
-  -- what is left of the sections leads to the same end
-  pub record Going (at count : ℕ) : Type 0 where
-    pub same : map_result (more count) (defs_of (rest F at)) ≡ all
+  -- the sections that are left lead to the same end
+  pub record Going (ss : Sections) (count : ℕ) : Type 0 where
+    pub same : map_result (more count) (defs_of ss) ≡ all
 
-  pub first : Going 0 0
+  pub first : (ss : Sections) → ss ≡ rest F 0 → Going ss 0
   unfolding schema_of
-  first = record { same = none_more (defs_of (rest F 0)) ∙ ap (λ (x : Sections). map_result length (defs_of x)) (rest_all F) ∙ all_entries (defs_of (sections F)) }
+  first ss e =
+      record { same = none_more (defs_of ss) ∙ ap (λ (x : Sections). map_result length (defs_of x)) (e ∙ rest_all F) ∙ all_entries (defs_of (sections F)) }
 
-  module _ (at count : ℕ) (g : Going at count) where
-    on : (ss : Sections) → rest F at ≡ ss → map_result (more count) (defs_of ss) ≡ all
-    on ss e = ap (λ (x : Sections). map_result (more count) (defs_of x)) (sym e) ∙ g.same
-
-    pub at_end_law : rest F at ≡ end → C.Sound count ≡ checked_is all
+  module _ (count : ℕ) where
+    pub at_end_law : Going end count → ok count ≡ all
     unfolding defs_of map_result
-    at_end_law e =
+    at_end_law g =
         let z : count ≡ count + 0 = omega arith in
-        ap C.Sound z ∙ ap checked_is (on end e)
+        ap ok z ∙ g.same
 
-    pub at_broken : rest F at ≡ broken → C.Refused 4 ≡ checked_is all
+    pub at_broken : Going broken count → refused 4 ≡ all
     unfolding defs_of map_result
-    at_broken e = ap checked_is (on broken e)
+    at_broken g = g.same
 
-    module _ (ident next : ℕ) (P : Bytes) (r : Checked) (e : rest F at ≡ section ident P (rest F next)) (s : r ≡ checked_is (map_result length (section_defs ident P))) where
-      pub refuses : (n : ℕ) → r ≡ C.Refused n → C.Refused n ≡ checked_is all
+    module _ (ident : ℕ) (P : Bytes) (ss : Sections) (g : Going (section ident P ss) count) where
+      pub refused_by : (n : ℕ) → refused n ≡ map_result length (section_defs ident P) → refused n ≡ all
       unfolding defs_of
-      refuses n q =
-          ap checked_is (sym (none_joined count n (section_defs ident P) (defs_of (rest F next)) (not_sound (section_defs ident P) r n s q)) ∙ on (section ident P (rest F next)) e)
+      refused_by n s = sym (none_joined count n (section_defs ident P) (defs_of ss) (not_sound (section_defs ident P) n s)) ∙ g.same
 
-      pub fewer : (n : ℕ) → r ≡ C.Sound n → 8 * n ≤ length P
-      fewer n q =
-          let x = sound (section_defs ident P) r n s q in
+      pub fewer : (n : ℕ) → ok n ≡ map_result length (section_defs ident P) → 8 * n ≤ length P
+      fewer n s =
+          let x = sound (section_defs ident P) n s in
           omega (arith, x.count, few_defs ident P x.defs x.is)
 
-      pub goes_on : (n : ℕ) → r ≡ C.Sound n → Going next (count + n)
+      pub goes_on : (n : ℕ) → ok n ≡ map_result length (section_defs ident P) → Going ss (count + n)
       unfolding defs_of
-      goes_on n q =
-          let x = sound (section_defs ident P) r n s q in
-          record {
-            same =
-                ap (λ (k : ℕ). map_result (more (count + k)) (defs_of (rest F next))) (sym x.count)
-                ∙ sym (joined count x.defs (section_defs ident P) (defs_of (rest F next)) x.is) ∙ on (section ident P (rest F next)) e;
-          }
+      goes_on n s =
+          let x = sound (section_defs ident P) n s in
+          record { same = ap (λ (k : ℕ). map_result (more (count + k)) (defs_of ss)) (sym x.count) ∙ sym (joined count x.defs (section_defs ident P) (defs_of ss) x.is) ∙ g.same }

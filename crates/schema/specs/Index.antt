@@ -1,8 +1,7 @@
 -- Look-up by name in any file, by the places of its index entries.
-use Rattle.std.specs.Prelude.{ℕ, zero, suc, ◌+◌, ◌-◌, ◌/◌, min, Bool, true, false, cond, ◌&&◌, List, [], ◌∷◌, ◌++◌, map, ltb, eqb, length}
-use Rattle.std.proofs.Math.Option.{Option, none, some}
+use Rattle.std.specs.Prelude.{ℕ, zero, suc, ◌+◌, ◌-◌, ◌/◌, min, Bool, true, false, cond, ◌&&◌, List, [], ◌∷◌, ◌++◌, map, ltb, eqb, length, Option, Some, None}
+use Rattle.std.specs.Option.{option_or}
 use Rattle.numbers.specs.Words.{Bytes, read_at}
-use Rattle.numbers.specs.Result.{or_else}
 use Rattle.schema.specs.Sections.{Sections, section, end, broken, PSCH, sections}
 
 -- how many index entries of a PSCH section lie in it
@@ -40,13 +39,13 @@ places_of kind name (section ident P ss) at = map (at +◌) (section_places iden
 
 -- the first of a list
 unfoldable pub first_of : {A : Type 0} → List A → Option A
-first_of [] = none
-first_of (a ∷ l) = some a
+first_of [] = None
+first_of (a ∷ l) = Some a
 
 -- the last of a list
 unfoldable pub last_of : {A : Type 0} → List A → Option A
-last_of [] = none
-last_of (a ∷ l) = or_else (last_of l) (some a)
+last_of [] = None
+last_of (a ∷ l) = option_or (last_of l) (Some a)
 
 -- where the definition stands that building finds
 unfoldable pub last_place : Bytes → ℕ → ℕ → Option ℕ

@@ -1,57 +1,62 @@
 // A cursor over the sections of a file.
 ghost use Rattle.std.specs.Prelude.{◌≡◌};
-ghost use Rattle.schema.specs.Steps.{rest, followed, Reach};
+ghost use Rattle.numbers.specs.Words.{Named};
+ghost use Rattle.schema.specs.Steps.{left_of, followed, Reach};
 
-use numbers::words::{left, read_u32};
+use numbers::refusal::Refusal;
+use numbers::words::{is_name, left, read};
 
+// A section of a file.
 #[derive(Clone, Copy)]
-pub struct Cursor {
-    pub at: usize,
+pub struct Section<'a> {
+    // Where it starts in the file.
+    pub place: usize,
+    // Its own bytes, with its name and its length.
+    pub bytes: &'a [u8],
 }
 
-// What stands at a cursor.
-#[derive(Clone, Copy)]
-pub enum Step {
-    // A section: its place and length in the file, and the cursor behind it.
-    Section {
-        place: usize,
-        len: usize,
-        next: Cursor,
-    },
-    // Fewer than eight bytes.
-    End,
-    // A length that is wrong (4).
-    Broken,
-}
-
-impl Cursor {
-    // Before the first section.
-    pub fn new() -> Self
-        ensures { result.at ≡ 0 }
+impl<'a> Section<'a> {
+    // Whether the section has the name.
+    pub fn is(self, name: &[u8; 4]) -> bool
+        ensures { Named name.now self.entry.bytes.now 0 result }
     {
-        Self { at: 0 }
+        is_name(self.bytes, 0, name)
+    }
+}
+
+// A place in a file where a section starts, or the file's end.
+#[derive(Clone, Copy)]
+pub struct Cursor<'a> {
+    file: &'a [u8],
+    at: usize,
+}
+
+impl<'a> Cursor<'a> {
+    // Before the first section.
+    pub fn new(file: &'a [u8]) -> Cursor<'a>
+        ensures { (result.file.now ≡ file.now) × (result.at ≡ 0) }
+    {
+        Cursor { file, at: 0 }
     }
 
-    // The section at the cursor, with the cursor behind it.
-    pub fn step(self, file: &[u8]) -> Step
-        ensures { (rest file.now self.at ≡ followed file.now result) × Reach file.now self.at result }
+    // The section at the cursor with the cursor behind it; none, where fewer than eight bytes are left.
+    pub fn step(self) -> Result<Option<(Section<'a>, Cursor<'a>)>, Refusal>
+        ensures { (left_of self.entry ≡ followed result) × Reach self.entry result }
     {
-        let at = self.at;
+        let Cursor { file, at } = self;
         let n = left(file, at);
         if n < 8 {
-            return Step::End;
+            return Ok(None);
         }
-        let len = read_u32(file, at + 4) as usize;
-        if len < 8 {
-            return Step::Broken;
+        let len = read::<u32>(file, at + 4) as usize;
+        if len < 8 || n < len {
+            return Err(Refusal::SectionLength);
         }
-        if n < len {
-            return Step::Broken;
-        }
-        Step::Section {
+        let next = at + len;
+        let section = Section {
             place: at,
-            len: len,
-            next: Cursor { at: at + len },
-        }
+            bytes: &file[at..next],
+        };
+        Ok(Some((section, Cursor { file, at: next })))
     }
 }

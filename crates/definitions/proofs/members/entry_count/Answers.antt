@@ -1,7 +1,8 @@
 -- `definitions::members::entry_count` meets its contract. Assumes nothing.
-use native.Mathlib.Omega.{arith}
-use Rattle.definitions.proofs.Fields.{total_none}
+use mathlib.Core.Path.{◌∙◌}
+use Rattle.definitions.proofs.Fields.{behind}
 use Rattle.definitions.proofs.members.entry_count.Goals as goal
 
-pub returns-then-file-place : goal.returns-then-file-place
-returns-then-file-place c = (total_none c.args.file.now c.args.place c.if-file-place.true, omega arith)
+pub returns : goal.returns
+returns c =
+    (c.read_number.ensures.0 ∙ behind c.args.file.now c.args.place _ c.part_from.ensures 3 1, c.read_number.ensures.1)

@@ -1,9 +1,11 @@
 -- `definitions::members::read_entry` meets its contract. Assumes nothing.
-use Rattle.definitions.proofs.Fields.{entry_is_law, entry_none}
+use Prim.Native.Nat.{◌+◌, ◌*◌}
+use native.Mathlib.Omega.{arith}
+use Rattle.definitions.proofs.Fields.{from_sum, entry_is_law}
 use Rattle.definitions.proofs.members.read_entry.Goals as goal
 
-pub returns-then-file-place : goal.returns-then-file-place
-returns-then-file-place c = entry_none c.args.file.now c.args.place c.args.k c.if-file-place.true
-
 pub returns : goal.returns
-returns c = entry_is_law c.args.file.now _ _ _ c.read_u32-name.ensures c.read_u32-value.ensures
+returns c =
+    let a = c.args in
+    entry_is_law a.file.now (a.place + 4 + 8 * a.k) _ (from_sum a.file.now _ _ _ _ c.part_from-here.ensures c.saturating_add.ensures (omega arith) (omega arith))
+    _ _ c.read.ensures c.read-2.ensures

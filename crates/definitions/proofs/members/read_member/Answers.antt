@@ -1,10 +1,11 @@
 -- `definitions::members::read_member` meets its contract. Assumes nothing.
-use Rattle.definitions.proofs.Fields.{member_none, member_is_law}
+use Prim.Native.Nat.{◌+◌, ◌*◌}
+use native.Mathlib.Omega.{arith}
+use Rattle.definitions.proofs.Fields.{from_sum, member_is_law}
 use Rattle.definitions.proofs.members.read_member.Goals as goal
-
-pub returns-then-file-place : goal.returns-then-file-place
-returns-then-file-place c = member_none c.args.file.now c.args.place c.args.k c.if-file-place.true
 
 pub returns : goal.returns
 returns c =
-    member_is_law c.args.file.now _ _ _ _ _ _ c.read_u32-name.ensures c.read_u8-kind.ensures c.read_u8-subtype.ensures c.read_u16-offset.ensures c.read_u32-reference.ensures
+    let a = c.args in
+    member_is_law a.file.now (a.place + 12 + 12 * a.k) _ (from_sum a.file.now _ _ _ _ c.part_from-here.ensures c.saturating_add.ensures (omega arith) (omega arith))
+    _ _ _ _ _ c.read.ensures c.read-2.ensures c.read-3.ensures c.read-4.ensures c.read-5.ensures

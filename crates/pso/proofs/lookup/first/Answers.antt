@@ -1,47 +1,41 @@
 -- `pso::lookup::first` meets its contract. Assumes nothing.
+use mathlib.Core.Path.{ap, sym, ◌∙◌}
 use native.Mathlib.Omega.{arith}
-use Rattle.schema.proofs.Walk.{onward, ended, broke}
-use Rattle.pso.proofs.Leading.{begin, at_end_law, at_broken, found, goes_on}
+use lib.ListN.{length}
+use Rattle.numbers.specs.Words.{read_at}
+use Rattle.schema.specs.Steps.{kind_number}
+use Rattle.schema.proofs.Walk.{onward_or, ended_or}
+use Rattle.pso.proofs.Leading.{begin, at_end_law, found, goes_on}
 use Rattle.pso.proofs.lookup.first.Goals as goal
 
-pub loop-place-init : goal.loop-place-init
-loop-place-init c =
+pub loop-section-init : goal.loop-section-init
+loop-section-init c =
+    let e = c.new-cursor.ensures in
+    (e.0, omega (arith, e.1), begin c.args.file.now (kind_number c.args.kind) c.args.name _ _ (rw (e.0, e.1)) e.1)
+
+pub returns-then-is_some : goal.returns-then-is_some
+returns-then-is_some c =
     let a = c.args in
-    (omega (arith, c.new-c.ensures), begin a.file.now a.kind a.name _ c.new-c.ensures)
+    let s = c.in-Some.section in
+    let l = c.loop-section in
+    let o = onward_or l.cursor c.step.result _ c.step.ensures c.unwrap_or.ensures s c.in-Some.next c.in-Some.is in
+    found a.file.now (kind_number a.kind) a.name (read_at 4 s.bytes.now 0) s.bytes.now _ l.cursor.at s.place c.in-Some.next.at c.first_in-found.result (rw o.left at l.invariant.2) o.step.here o.step.on
+    c.first_in-found.ensures (sym c.is_some.ensures ∙ c.if-is_some.true)
 
-pub returns-in-End : goal.returns-in-End
-returns-in-End c =
+pub loop-section-preserved : goal.loop-section-preserved
+loop-section-preserved c =
     let a = c.args in
-    let l = c.loop-place in
-    at_end_law a.file.now a.kind a.name l.c.at l.invariant.1 (ended a.file.now l.c.at c.step-s.result c.step-s.ensures c.in-End.is)
+    let s = c.in-Some.section in
+    let l = c.loop-section in
+    let o = onward_or l.cursor c.step.result _ c.step.ensures c.unwrap_or.ensures s c.in-Some.next c.in-Some.is in (
+      o.step.same ∙ l.invariant.0,
+      omega (arith, o.step.inside, o.step.on, ap length l.invariant.0),
+      goes_on a.file.now (kind_number a.kind) a.name (read_at 4 s.bytes.now 0) s.bytes.now _ l.cursor.at s.place c.in-Some.next.at c.first_in-found.result (rw o.left at l.invariant.2) o.step.here o.step.on
+          c.first_in-found.ensures (sym c.is_some.ensures ∙ c.if-is_some.false),
+    )
 
-pub returns-in-Broken : goal.returns-in-Broken
-returns-in-Broken c =
+pub returns : goal.returns
+returns c =
     let a = c.args in
-    let l = c.loop-place in
-    at_broken a.file.now a.kind a.name l.c.at l.invariant.1 (broke a.file.now l.c.at c.step-s.result c.step-s.ensures c.in-Broken.is)
-
-pub first_of-f-requires : goal.first_of-f-requires
-first_of-f-requires c =
-    let o = onward c.args.file.now c.loop-place.c.at c.step-s.result c.step-s.ensures c.in-Section.place c.in-Section.len c.in-Section.next c.in-Section.is in
-    omega (arith, o.inside)
-
-pub returns-in-At : goal.returns-in-At
-returns-in-At c =
-    let a = c.args in
-    let l = c.loop-place in
-    let o = onward a.file.now l.c.at c.step-s.result c.step-s.ensures c.in-Section.place c.in-Section.len c.in-Section.next c.in-Section.is in
-    found a.file.now a.kind a.name l.c.at l.invariant.1 c.in-Section.place c.in-Section.len c.in-Section.next.at c.first_of-f.result o c.first_of-f.ensures c.in-At.at c.in-At.is
-
-pub loop-place-smaller : goal.loop-place-smaller
-loop-place-smaller c =
-    let l = c.loop-place in
-    let o = onward c.args.file.now l.c.at c.step-s.result c.step-s.ensures c.in-Section.place c.in-Section.len c.in-Section.next c.in-Section.is in
-    omega (arith, o.inside, o.least, o.on, o.here)
-
-pub loop-place-preserved : goal.loop-place-preserved
-loop-place-preserved c =
-    let a = c.args in
-    let l = c.loop-place in
-    let o = onward a.file.now l.c.at c.step-s.result c.step-s.ensures c.in-Section.place c.in-Section.len c.in-Section.next c.in-Section.is in
-    (omega (arith, o.inside, o.on), goes_on a.file.now a.kind a.name l.c.at l.invariant.1 c.in-Section.place c.in-Section.len c.in-Section.next.at c.first_of-f.result o c.first_of-f.ensures c.in-Nothing.is)
+    let l = c.loop-section in
+    at_end_law a.file.now (kind_number a.kind) a.name _ l.cursor.at l.invariant.2 (ended_or l.cursor c.step.result _ c.step.ensures c.unwrap_or.ensures c.in_default.is)

@@ -1,42 +1,46 @@
 -- `pso::lookup::first_in` meets its contract. Assumes nothing.
-use mathlib.Core.Path.{ap}
-use native.Mathlib.Omega.{arith}
+use Rattle.std.specs.Prelude.{option_map}
+use mathlib.Core.Path.{ap, ◌∙◌}
 use Prim.Native.Nat.{◌+◌}
-use Rattle.numbers.specs.Result.{map_option}
+use native.Mathlib.Omega.{arith}
+use Rattle.schema.specs.Index.{index_count, first_of}
+use Rattle.schema.specs.Steps.{kind_number}
+use Rattle.definitions.proofs.Seek.{other_section, psch_section}
 use Rattle.pso.proofs.Leading.{first_start, first_hit, first_miss, first_none}
 use Rattle.pso.proofs.lookup.first_in.Goals as goal
 
+pub returns-then-not-is : goal.returns-then-not-is
+unfolding first_of
+returns-then-not-is c =
+    let s = c.args.section in
+    ap (λ l. option_map (s.place +◌) (first_of l))
+    (other_section s.bytes.now (kind_number c.args.kind) c.args.name c.is.result (c.is.ensures.number (omega arith)) c.if-not-is.true)
+
 pub loop-i-init : goal.loop-i-init
-loop-i-init c = (omega arith, first_start c.args.p.now c.args.kind c.args.name c.index_count-n.result)
+loop-i-init c = first_start c.args.section.bytes.now (kind_number c.args.kind) c.args.name _
 
-pub overflow_mul-at : goal.overflow_mul-at
-overflow_mul-at c = omega (arith, c.index_count-n.ensures)
-
-pub overflow_add-at : goal.overflow_add-at
-overflow_add-at c = omega (arith, c.index_count-n.ensures)
-
-pub leads_to-requires : goal.leads_to-requires
-leads_to-requires c = omega (arith, c.index_count-n.ensures)
-
-pub overflow_add-at-then-leads_to : goal.overflow_add-at-then-leads_to
-overflow_add-at-then-leads_to c = omega (arith, c.index_count-n.ensures)
-
-pub returns-then-leads_to : goal.returns-then-leads_to
-returns-then-leads_to c =
-    let a = c.args in
-    let l = c.loop-i in
-    ap (map_option (a.from +◌))
-    (rw c.index_count-n.ensures at (first_hit a.p.now a.kind a.name c.index_count-n.result l.i c.loop-i-test.true l.invariant.1 c.leads_to.result c.leads_to.ensures
-    c.if-leads_to.true c.read_u32-place.result c.read_u32-place.ensures))
+pub returns-in-Some : goal.returns-in-Some
+returns-in-Some c =
+    let s = c.args.section in
+    let P = s.bytes.now in
+    let k = kind_number c.args.kind in
+    let lt = rw c.index_count-i-end.ensures at c.loop-i-test.true in
+    ap (option_map (s.place +◌))
+    (first_hit P k c.args.name (index_count P) c.loop-i.i lt c.loop-i.invariant c.in-Some.place c.in-Some.ensures
+    ∙ ap first_of (psch_section P k c.args.name c.is.result (c.is.ensures.number (omega arith)) c.if-not-is.false))
 
 pub loop-i-preserved : goal.loop-i-preserved
 loop-i-preserved c =
-    let a = c.args in
-    let l = c.loop-i in
-    (omega arith, first_miss a.p.now a.kind a.name c.index_count-n.result l.i c.loop-i-test.true l.invariant.1 c.leads_to.result c.leads_to.ensures c.if-leads_to.false)
+    let P = c.args.section.bytes.now in
+    let lt = rw c.index_count-i-end.ensures at c.loop-i-test.true in
+    first_miss P (kind_number c.args.kind) c.args.name (index_count P) c.loop-i.i lt c.loop-i.invariant c.in_default.ensures
 
 pub returns : goal.returns
 returns c =
-    let a = c.args in
-    let l = c.loop-i in
-    ap (map_option (a.from +◌)) (rw c.index_count-n.ensures at (first_none a.p.now a.kind a.name c.index_count-n.result l.i c.loop-i-test.false l.invariant.1))
+    let s = c.args.section in
+    let P = s.bytes.now in
+    let k = kind_number c.args.kind in
+    let ge = rw c.index_count-i-end.ensures at c.loop-i-test.false in
+    ap (option_map (s.place +◌))
+    (first_none P k c.args.name (index_count P) c.loop-i.i ge c.loop-i.invariant
+    ∙ ap first_of (psch_section P k c.args.name c.is.result (c.is.ensures.number (omega arith)) c.if-not-is.false))

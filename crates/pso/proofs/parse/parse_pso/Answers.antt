@@ -1,71 +1,75 @@
 -- `pso::parse::parse_pso` meets its contract. Assumes nothing.
+use mathlib.Core.Path.{refl, ap, ◌∙◌}
 use native.Mathlib.Omega.{arith}
-use Rattle.schema.proofs.Walk.{onward, ended, broke}
+use lib.ListN.{length}
+use Rattle.schema.proofs.Errors.{passed_on}
+use Rattle.schema.proofs.Walk.{onward, ended}
+use Rattle.pso.proofs.Place.{lies_there, placed_first, placed_turn, refusal_is, answer_is}
 use Rattle.pso.proofs.Sight.{first, no_name, bad_name, parse_end, parse_broken, parse_refused, parse_turn}
-use Rattle.pso.proofs.Place.{placed_first, placed_turn, refusal_is, answer_is}
 use Rattle.pso.proofs.parse.parse_pso.Goals as goal
-
--- the two facts of one answer
-both : {P Q : Type 0} → P × Q → record { file_value : P; value : Q }
-both w = record { file_value = w.0; value = w.1 }
+use Rattle.pso.proofs.parse.parse_pso.Goals.{then-file-lt4-via-then-file-lt4, then-file-lt4-via-else-file-lt4+then-not-is_name}
 
 pub returns-then-file-lt4 : goal.returns-then-file-lt4
 returns-then-file-lt4 c =
-    both (refusal_is c.args.file.now 15 (no_name c.args.file.now c.if-file-lt4.true))
-
-pub returns-then-not-is_name : goal.returns-then-not-is_name
-returns-then-not-is_name c =
-    both (refusal_is c.args.file.now 15 (bad_name c.args.file.now c.if-file-lt4.false c.is_name.result (c.is_name.ensures.number (omega arith)) c.if-not-is_name.true))
-
-pub loop-body-init : goal.loop-body-init
-loop-body-init c =
-    (omega (arith, c.new-c.ensures), omega arith, first c.args.file.now _ c.new-c.ensures, placed_first c.args.file.now _ c.new-c.ensures)
-
-pub returns-in-End : goal.returns-in-End
-returns-in-End c =
     let F = c.args.file.now in
-    let l = c.loop-body in
-    let t = ended F l.c.at c.step-q.result c.step-q.ensures c.in-End.is in
-    both (answer_is F l.c.at l.s l.invariant.3 t c.finish.result c.finish.ensures
-    (parse_end F c.if-file-lt4.false c.is_name.result (c.is_name.ensures.number (omega arith)) c.if-not-is_name.false l.c.at l.s l.invariant.2
-    t c.finish.result c.finish.ensures))
+    refusal_is F 15
+    (elim c.then-file-lt4.branch [
+      | then-file-lt4-via-then-file-lt4 w ↦ no_name F w.if-file-lt4.true
+      | then-file-lt4-via-else-file-lt4+then-not-is_name w ↦ bad_name F w.if-file-lt4.false w.is_name.result (w.is_name.ensures.number (omega arith)) w.if-not-is_name.true
+    ])
 
-pub returns-in-Broken : goal.returns-in-Broken
-returns-in-Broken c =
+pub loop-section-init : goal.loop-section-init
+loop-section-init c =
     let F = c.args.file.now in
-    let l = c.loop-body in
-    both (refusal_is F 4
-    (parse_broken F c.if-file-lt4.false c.is_name.result (c.is_name.ensures.number (omega arith)) c.if-not-is_name.false l.c.at l.s l.invariant.2
-    (broke F l.c.at c.step-q.result c.step-q.ensures c.in-Broken.is)))
+    let e = c.new-cursor.ensures in
+    (e.0, omega (arith, e.1), omega arith, first F _ (rw (e.0, e.1)), placed_first F _ _ (rw (e.0, e.1)) e.1)
 
-pub see-w-requires : goal.see-w-requires
-see-w-requires c =
-    let l = c.loop-body in
-    let o = onward c.args.file.now l.c.at c.step-q.result c.step-q.ensures c.in-Section.place c.in-Section.len c.in-Section.next c.in-Section.is in
-    (o.inside, omega (arith, o.here, l.invariant.1))
-
-pub returns-in-Refused : goal.returns-in-Refused
-returns-in-Refused c =
+pub returns-in_err-section : goal.returns-in_err-section
+returns-in_err-section c =
     let F = c.args.file.now in
-    let l = c.loop-body in
-    let o = onward F l.c.at c.step-q.result c.step-q.ensures c.in-Section.place c.in-Section.len c.in-Section.next c.in-Section.is in
-    both (refusal_is F c.in-Refused.n
-    (parse_refused F c.if-file-lt4.false c.is_name.result (c.is_name.ensures.number (omega arith)) c.if-not-is_name.false l.c.at l.s l.invariant.2
-    c.in-Section.place c.in-Section.len c.in-Section.next.at c.see-w.result o.left c.see-w.ensures c.in-Refused.n c.in-Refused.is))
+    let l = c.loop-section in
+    let h = c.in_err-section.ensures in
+    rw (← passed_on _ c.in_err-section.field-0.0 c.from_residual.ensures.1, h.1)
+    (refusal_is F 4 (parse_broken F c.if-file-lt4.false c.is_name.result (c.is_name.ensures.number (omega arith)) c.if-not-is_name.false l.state (rw h.0 at l.invariant.3)))
 
-pub loop-body-smaller : goal.loop-body-smaller
-loop-body-smaller c =
-    let l = c.loop-body in
-    let o = onward c.args.file.now l.c.at c.step-q.result c.step-q.ensures c.in-Section.place c.in-Section.len c.in-Section.next c.in-Section.is in
-    omega (arith, o.inside, o.least, o.on, o.here)
-
-pub loop-body-preserved : goal.loop-body-preserved
-loop-body-preserved c =
+pub returns-in_err-state : goal.returns-in_err-state
+returns-in_err-state c =
     let F = c.args.file.now in
-    let l = c.loop-body in
-    let o = onward F l.c.at c.step-q.result c.step-q.ensures c.in-Section.place c.in-Section.len c.in-Section.next c.in-Section.is in (
-      omega (arith, o.inside, o.on),
-      omega (arith, o.on, o.here, l.invariant.1, c.see-w.ensures.few c.in-Next.t c.in-Next.is),
-      parse_turn F l.c.at c.in-Section.place c.in-Section.len c.in-Section.next.at l.s c.see-w.result l.invariant.2 o.left c.see-w.ensures c.in-Next.t c.in-Next.is,
-      placed_turn F l.c.at c.in-Section.place c.in-Section.len c.in-Section.next.at l.s c.see-w.result l.invariant.3 o.left o.here o.on o.inside c.see-w.ensures c.in-Next.t c.in-Next.is,
+    let l = c.loop-section in
+    let i = l.invariant in
+    let o = onward l.cursor _ c.in-Some.section c.in-Some.next c.in_ok-section.ensures c.in-Some.is in
+    rw (← passed_on _ c.in_err-state.field-0.0 c.from_residual-in_err-state.ensures.1)
+    (refusal_is F _ (parse_refused F c.if-file-lt4.false c.is_name.result (c.is_name.ensures.number (omega arith)) c.if-not-is_name.false l.state c.in-Some.section _ (rw o.left at i.3) _ c.in_err-state.ensures))
+
+pub see-requires : goal.see-requires
+see-requires c =
+    let l = c.loop-section in
+    let i = l.invariant in
+    let b = c.in-Some.section in
+    let o = onward l.cursor _ b c.in-Some.next c.in_ok-section.ensures c.in-Some.is in
+    (omega (arith, o.step.here, i.2), omega (arith, o.step.here, i.1))
+
+pub loop-section-preserved : goal.loop-section-preserved
+loop-section-preserved c =
+    let F = c.args.file.now in
+    let l = c.loop-section in
+    let i = l.invariant in
+    let b = c.in-Some.section in
+    let o = onward l.cursor _ b c.in-Some.next c.in_ok-section.ensures c.in-Some.is in
+    let w = c.in_ok-state.ensures in
+    let x = c.in_ok-state.state in (
+      o.step.same ∙ i.0,
+      omega (arith, o.step.inside, o.step.on, ap length i.0),
+      omega (arith, w.few x refl, i.2, o.step.on),
+      parse_turn F b _ l.state x (rw o.left at i.3) w,
+      placed_turn F b _ l.cursor.at c.in-Some.next.at l.state x (rw o.left at i.4) o.step.here o.step.on (lies_there F l.cursor b c.in-Some.next o.step i.0) _ w refl,
     )
+
+pub returns : goal.returns
+returns c =
+    let F = c.args.file.now in
+    let l = c.loop-section in
+    let e = ended l.cursor _ c.in_ok-section.ensures c.in_default.is in
+    let g = rw e at l.invariant.4 in
+    answer_is F l.cursor.at l.state g _ c.finish.ensures
+    (parse_end F c.if-file-lt4.false c.is_name.result (c.is_name.ensures.number (omega arith)) c.if-not-is_name.false l.state (rw e at l.invariant.3) g.lies _ c.finish.ensures)

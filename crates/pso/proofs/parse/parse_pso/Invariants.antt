@@ -1,12 +1,16 @@
 -- `pso::parse::parse_pso` meets its contract. Assumes nothing.
+use mathlib.Core.Path.{◌≡◌}
 use Prim.Native.Nat.{◌-◌, ◌≤◌}
 use lib.ListN.{length}
+use Rattle.schema.specs.Steps.{left_of}
 use Rattle.pso.proofs.Sight.{Going}
 use Rattle.pso.proofs.Place.{Placed}
 use Rattle.pso.proofs.parse.parse_pso.Given as goal
 
-abbrev pub invariant-loop-body : goal.invariant-loop-body
-invariant-loop-body l = (l.c.at ≤ length l.file) × (l.s.blocks ≤ l.c.at) × Going l.file l.c.at l.s × Placed l.file l.c.at l.s
+abbrev pub invariant-loop-section : goal.invariant-loop-section
+invariant-loop-section l =
+    (l.cursor.file.now ≡ l.file) × (l.cursor.at ≤ length l.file) × (l.state.blocks ≤ l.cursor.at) × Going l.file (left_of l.cursor) l.state
+    × Placed l.file (left_of l.cursor) l.cursor.at l.state
 
-abbrev pub decreases-loop-body : goal.decreases-loop-body
-decreases-loop-body l = length l.file - l.c.at
+abbrev pub decreases-loop-section : goal.decreases-loop-section
+decreases-loop-section l = length l.file - l.cursor.at

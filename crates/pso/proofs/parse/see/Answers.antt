@@ -1,40 +1,42 @@
 -- `pso::parse::see` meets its contract. Assumes nothing.
-use Rattle.schema.proofs.Walk.{part_is, part_length}
-use mathlib.Core.Path.{ap, ◌∙◌}
 use native.Mathlib.Omega.{arith}
-use lib.ListN.{length}
-use Rattle.pso.proofs.Sight.{see_data, see_map, see_defs, see_other, map_fits}
+use Rattle.schema.proofs.Errors.{passed_on}
+use Rattle.pso.proofs.Sight.{see_data, no_map, see_map, few_blocks, no_defs, see_defs, see_other}
 use Rattle.pso.proofs.parse.see.Goals as goal
+use Rattle.pso.proofs.parse.see.Goals.{then-is-3+in_ok-check_psch, else-is-3}
 
-pub returns-then-is_name : goal.returns-then-is_name
-returns-then-is_name c =
-    let a = c.args in
-    see_data a.file.now a.place a.len a.s c.is_name.result (c.is_name.ensures.number (omega arith)) c.if-is_name.true
+pub returns-then-is : goal.returns-then-is
+returns-then-is c =
+    see_data c.args.section c.args.s c.is.result (c.is.ensures.number (omega arith)) c.if-is.true
 
-pub with_map-requires : goal.with_map-requires
-with_map-requires c =
-    λ root start count e.
-    let a = c.args in
-    let k = part_is a.file.now a.place a.len in
-    let f = map_fits a.s a.place a.len (length a.file.now) _ c.read_rows.result (ap length k ∙ part_length a.file.now a.place a.len c.requires.0) c.requires.1 c.requires.0 c.read_rows.ensures root start count e in
+pub returns-in_err-rows : goal.returns-in_err-rows
+returns-in_err-rows c =
+    rw (← passed_on _ c.in_err-rows.field-0.0 c.from_residual.ensures.1)
+    (no_map c.args.section c.args.s c.is.result (c.is.ensures.number (omega arith)) c.if-is.false c.is-2.result (c.is-2.ensures.number (omega arith)) c.if-is-2.true _ c.in_err-rows.ensures)
+
+pub overflow_add-result : goal.overflow_add-result
+overflow_add-result c =
+    let f = few_blocks c.args.section.bytes.now c.in_ok-rows.rows c.in_ok-rows.ensures in
     omega (arith, f)
 
-pub returns-then-is_name-2 : goal.returns-then-is_name-2
-returns-then-is_name-2 c =
-    let a = c.args in
-    see_map a.file.now a.place a.len a.s c.is_name.result (c.is_name.ensures.number (omega arith)) c.if-is_name.false
-    c.is_name-2.result (c.is_name-2.ensures.number (omega arith)) (part_length a.file.now a.place a.len c.requires.0) c.if-is_name-2.true _
-    (part_is a.file.now a.place a.len) c.read_rows.result c.read_rows.ensures c.with_map.result c.with_map.ensures
+pub returns-then-is-2 : goal.returns-then-is-2
+returns-then-is-2 c =
+    see_map c.args.section c.args.s c.is.result (c.is.ensures.number (omega arith)) c.if-is.false c.is-2.result (c.is-2.ensures.number (omega arith)) c.if-is-2.true c.in_ok-rows.rows c.in_ok-rows.ensures
 
-pub returns-then-is_name-3 : goal.returns-then-is_name-3
-returns-then-is_name-3 c =
-    let a = c.args in
-    see_defs a.file.now a.place a.len a.s c.is_name.result (c.is_name.ensures.number (omega arith)) c.if-is_name.false
-    c.is_name-2.result (c.is_name-2.ensures.number (omega arith)) c.if-is_name-2.false c.is_name-3.result (c.is_name-3.ensures.number (omega arith)) c.if-is_name-3.true _
-    (part_is a.file.now a.place a.len) c.check_psch.result c.check_psch.ensures c.with_defs.result c.with_defs.ensures
+pub returns-in_err-check_psch : goal.returns-in_err-check_psch
+returns-in_err-check_psch c =
+    rw (← passed_on _ c.in_err-check_psch.field-0.0 c.from_residual-in_err-check_psch.ensures.1)
+    (no_defs c.args.section c.args.s c.is.result (c.is.ensures.number (omega arith)) c.if-is.false c.is-2.result (c.is-2.ensures.number (omega arith)) c.if-is-2.false
+    c.is-3.result (c.is-3.ensures.number (omega arith)) c.if-is-3.true _ c.in_err-check_psch.ensures)
 
 pub returns : goal.returns
 returns c =
     let a = c.args in
-    see_other a.file.now a.place a.len a.s c.is_name.result (c.is_name.ensures.number (omega arith)) c.if-is_name.false
-    c.is_name-2.result (c.is_name-2.ensures.number (omega arith)) c.if-is_name-2.false c.is_name-3.result (c.is_name-3.ensures.number (omega arith)) c.if-is_name-3.false
+    elim c.if-is-3.branch [
+      | then-is-3+in_ok-check_psch w ↦
+          see_defs a.section a.s c.is.result (c.is.ensures.number (omega arith)) c.if-is.false c.is-2.result (c.is-2.ensures.number (omega arith)) c.if-is-2.false
+          c.is-3.result (c.is-3.ensures.number (omega arith)) w.if-is-3.true _ w.in_ok-check_psch.ensures
+      | else-is-3 w ↦
+          see_other a.section a.s c.is.result (c.is.ensures.number (omega arith)) c.if-is.false c.is-2.result (c.is-2.ensures.number (omega arith)) c.if-is-2.false
+          c.is-3.result (c.is-3.ensures.number (omega arith)) w.if-is-3.false
+    ]

@@ -1,60 +1,54 @@
 -- `schema::check::check_schema` meets its contract. Assumes nothing.
+use mathlib.Core.Path.{refl, ap, ◌∙◌}
 use native.Mathlib.Omega.{arith}
-use Rattle.schema.proofs.Walk.{onward, ended, broke}
-use Rattle.schema.proofs.Counts.{first, at_end_law, at_broken, refuses, fewer, goes_on}
+use lib.ListN.{length}
+use Rattle.schema.proofs.Errors.{passed_on}
+use Rattle.schema.proofs.Walk.{onward, ended}
+use Rattle.schema.proofs.Counts.{first, at_end_law, at_broken, refused_by, fewer, goes_on}
 use Rattle.schema.proofs.check.check_schema.Goals as goal
 
-pub loop-place-init : goal.loop-place-init
-loop-place-init c =
-    let e = c.new-c.ensures in
-    (omega (arith, e), omega arith, rw e (first c.args.file.now))
+pub loop-section-init : goal.loop-section-init
+loop-section-init c =
+    let e = c.new-cursor.ensures in
+    (e.0, omega (arith, e.1), omega arith, rw (e.0, e.1) (first c.args.file.now _ refl))
 
-pub returns-in-End : goal.returns-in-End
-returns-in-End c =
-    let F = c.args.file.now in
-    let l = c.loop-place in
-    at_end_law F l.c.at l.count l.invariant.2 (ended F l.c.at c.step-s.result c.step-s.ensures c.in-End.is)
+pub returns-in_err-section : goal.returns-in_err-section
+returns-in_err-section c =
+    let h = c.in_err-section.ensures in
+    rw (← passed_on _ c.in_err-section.field-0.0 c.from_residual.ensures.1, h.1)
+    (at_broken c.args.file.now c.loop-section.count (rw h.0 at c.loop-section.invariant.3))
 
-pub returns-in-Broken : goal.returns-in-Broken
-returns-in-Broken c =
-    let F = c.args.file.now in
-    let l = c.loop-place in
-    at_broken F l.c.at l.count l.invariant.2 (broke F l.c.at c.step-s.result c.step-s.ensures c.in-Broken.is)
-
-pub check_section-q-requires : goal.check_section-q-requires
-check_section-q-requires c =
-    let o = onward c.args.file.now c.loop-place.c.at c.step-s.result c.step-s.ensures c.in-Section.place c.in-Section.len c.in-Section.next c.in-Section.is in
-    omega (arith, o.inside)
-
-pub returns-in-Refused : goal.returns-in-Refused
-returns-in-Refused c =
-    let F = c.args.file.now in
-    let l = c.loop-place in
-    let o = onward F l.c.at c.step-s.result c.step-s.ensures c.in-Section.place c.in-Section.len c.in-Section.next c.in-Section.is in
-    refuses F l.c.at l.count l.invariant.2 _ c.in-Section.next.at _ c.check_section-q.result o.left c.check_section-q.ensures c.in-Refused.n c.in-Refused.is
+pub returns-in_err-count : goal.returns-in_err-count
+returns-in_err-count c =
+    let o = onward c.loop-section.cursor _ c.in-Some.section c.in-Some.next c.in_ok-section.ensures c.in-Some.is in
+    rw (← passed_on _ c.in_err-count.field-0.0 c.from_residual-in_err-count.ensures.1)
+    (refused_by c.args.file.now c.loop-section.count _ c.in-Some.section.bytes.now _ (rw o.left at c.loop-section.invariant.3) _ c.in_err-count.ensures)
 
 pub overflow_add-count : goal.overflow_add-count
 overflow_add-count c =
-    let F = c.args.file.now in
-    let l = c.loop-place in
-    let o = onward F l.c.at c.step-s.result c.step-s.ensures c.in-Section.place c.in-Section.len c.in-Section.next c.in-Section.is in
-    let f = fewer F l.c.at l.count l.invariant.2 _ c.in-Section.next.at _ c.check_section-q.result o.left c.check_section-q.ensures c.in-Sound.k c.in-Sound.is in
-    omega (arith, o.inside, o.whole, f, l.invariant.0, l.invariant.1)
+    let o = onward c.loop-section.cursor _ c.in-Some.section c.in-Some.next c.in_ok-section.ensures c.in-Some.is in
+    let i = c.loop-section.invariant in
+    let f = fewer c.args.file.now c.loop-section.count _ c.in-Some.section.bytes.now _ (rw o.left at i.3) _ c.in_ok-count.ensures in
+    let e = ap length i.0 in
+    omega (arith, o.step.inside, f, i.2, e)
 
-pub loop-place-smaller : goal.loop-place-smaller
-loop-place-smaller c =
-    let F = c.args.file.now in
-    let l = c.loop-place in
-    let o = onward F l.c.at c.step-s.result c.step-s.ensures c.in-Section.place c.in-Section.len c.in-Section.next c.in-Section.is in
-    omega (arith, o.inside, o.least, o.on, o.here)
-
-pub loop-place-preserved : goal.loop-place-preserved
-loop-place-preserved c =
-    let F = c.args.file.now in
-    let l = c.loop-place in
-    let o = onward F l.c.at c.step-s.result c.step-s.ensures c.in-Section.place c.in-Section.len c.in-Section.next c.in-Section.is in
-    let f = fewer F l.c.at l.count l.invariant.2 _ c.in-Section.next.at _ c.check_section-q.result o.left c.check_section-q.ensures c.in-Sound.k c.in-Sound.is in (
-      omega (arith, o.inside, o.on),
-      omega (arith, o.whole, o.on, o.here, f, l.invariant.1),
-      goes_on F l.c.at l.count l.invariant.2 _ c.in-Section.next.at _ c.check_section-q.result o.left c.check_section-q.ensures c.in-Sound.k c.in-Sound.is,
+pub loop-section-preserved : goal.loop-section-preserved
+loop-section-preserved c =
+    let o = onward c.loop-section.cursor _ c.in-Some.section c.in-Some.next c.in_ok-section.ensures c.in-Some.is in
+    let i = c.loop-section.invariant in
+    let f = fewer c.args.file.now c.loop-section.count _ c.in-Some.section.bytes.now _ (rw o.left at i.3) _ c.in_ok-count.ensures in (
+      o.step.same ∙ i.0,
+      omega (arith, o.step.inside, o.step.on, ap length i.0),
+      omega (arith, f, i.2, o.step.on),
+      goes_on c.args.file.now c.loop-section.count _ c.in-Some.section.bytes.now _ (rw o.left at i.3) _ c.in_ok-count.ensures,
     )
+
+pub loop-section-smaller : goal.loop-section-smaller
+loop-section-smaller c =
+    let o = onward c.loop-section.cursor _ c.in-Some.section c.in-Some.next c.in_ok-section.ensures c.in-Some.is in
+    omega (arith, o.step.inside, o.step.least, o.step.on, ap length c.loop-section.invariant.0)
+
+pub returns : goal.returns
+returns c =
+    let e = ended c.loop-section.cursor _ c.in_ok-section.ensures c.in_default.is in
+    at_end_law c.args.file.now c.loop-section.count (rw e at c.loop-section.invariant.3)

@@ -1,7 +1,0 @@
--- `definitions::lookup::find_structure` meets its contract. Assumes nothing.
-use Rattle.definitions.proofs.Finds.{winning_struct}
-use Rattle.definitions.proofs.lookup.find_structure.Goals as goal
-
-pub returns : goal.returns
-returns c =
-    record { result_value = c.last.ensures; name_value = λ S e. winning_struct c.args.file.now c.args.name c.last.result S e c.last.ensures }
