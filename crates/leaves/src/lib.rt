@@ -1,5 +1,4 @@
 // The leaves for a caller in Rust or C, for comparisons by running: each has its leaf's contract, and takes any input.
-// A code is 0 where there is a value, 1 where there is none, and 11 at a float's text.
 #![tactic(auto)]
 
 ghost use Rattle.std.specs.Prelude.{◌≡◌, ◌^◌, pos, ◌-ℤ◌, ◌*ℤ◌, length};
@@ -7,21 +6,21 @@ ghost use Rattle.conversions.specs.Single.{value};
 ghost use Rattle.conversions.specs.Round.{Rounded, f32_of};
 ghost use Rattle.conversions.specs.Trunc.{i64_of};
 ghost use Rattle.conversions.specs.Radix.{unsigned};
-ghost use Rattle.conversions.specs.Answer.{number_is, whole_is, word_is};
 ghost use Rattle.hash.specs.Joaat.{joaat};
 ghost use Rattle.value.specs.Rows.{row};
 ghost use Rattle.texts.specs.Text.{trimmed};
 ghost use Rattle.texts.specs.Float.{parses_float};
 ghost use Rattle.coerce.specs.Numbers.{int_of, float_of, vec_of};
 ghost use Rattle.names.specs.Names.{hash_of};
-ghost use Rattle.coerce.specs.Answer.{int_is, bits_is, vec_is};
 ghost use Rattle.leaves.specs.Codes;
 
-use coerce::vector::{Vector, vec_of};
-use coerce::whole::{Bits, Int, float_of, has_str, int_of, str_of};
-use conversions::parse::{Number, Whole, Word, hex_u32_of, i64_of, u64_of};
+use coerce::misfit::Misfit;
+use coerce::vector::vec_of;
+use coerce::whole::{float_of, has_str, int_of, str_of};
+use conversions::parse::{hex_u32_of, i64_of, u64_of};
 use conversions::single::{f32_of_i64, f32_rest, i64_of_f32};
 use hash::rage_joaat;
+use names::entries::Entries;
 use names::enums::enum_value;
 use names::flags::flags_bits;
 use names::hashes::hash_of;
@@ -30,6 +29,7 @@ use texts::float::parses_float;
 use texts::text::trim;
 use value::read_row;
 
+// An answer's record has a code and a value. An exported function cannot have a generic record yet, so each value's type has its own.
 #[repr(C)]
 #[derive(Clone, Copy)]
 pub struct Unsigned {
@@ -61,69 +61,62 @@ pub struct Four {
     pub d: u32,
 }
 
-fn of_number(n: Number) -> Unsigned
-    ensures { result ≡ Codes.of_number n }
+// 0 where there is a value, 1 where there is none, and 11 at a float's text.
+fn code_of<T>(answer: &Result<T, Misfit>) -> u32
+    ensures { result ≡ Codes.code_of answer.now }
 {
-    match n {
-        Number::Value(x) => Unsigned { code: 0, value: x },
-        Number::Bad => Unsigned { code: 1, value: 0 },
+    match answer {
+        Ok(_) => 0,
+        Err(Misfit::Unfit) => 1,
+        Err(Misfit::FloatText) => 11,
     }
 }
 
-fn of_word(n: Word) -> Small
-    ensures { result ≡ Codes.of_word n }
-{
-    match n {
-        Word::Value(x) => Small { code: 0, value: x },
-        Word::Bad => Small { code: 1, value: 0 },
+impl From<Result<u64, Misfit>> for Unsigned {
+    ghost from_gives = { λ answer r. r ≡ Codes.unsigned_of answer };
+
+    fn from(answer: Result<u64, Misfit>) -> Self {
+        Self {
+            code: code_of(&answer),
+            value: answer.unwrap_or(0),
+        }
     }
 }
 
-fn of_int(n: Int) -> Unsigned
-    ensures { result ≡ Codes.of_int n }
-{
-    match n {
-        Int::Fits(x) => Unsigned { code: 0, value: x },
-        Int::Unfit => Unsigned { code: 1, value: 0 },
-        Int::FloatText => Unsigned { code: 11, value: 0 },
+impl From<Result<i64, Misfit>> for Signed {
+    ghost from_gives = { λ answer r. r ≡ Codes.signed_of answer };
+
+    fn from(answer: Result<i64, Misfit>) -> Self {
+        Self {
+            code: code_of(&answer),
+            value: answer.unwrap_or(0),
+        }
     }
 }
 
-fn of_bits(n: Bits) -> Small
-    ensures { result ≡ Codes.of_bits n }
-{
-    match n {
-        Bits::Fits(x) => Small { code: 0, value: x },
-        Bits::Unfit => Small { code: 1, value: 0 },
-        Bits::FloatText => Small { code: 11, value: 0 },
+impl From<Result<u32, Misfit>> for Small {
+    ghost from_gives = { λ answer r. r ≡ Codes.small_of answer };
+
+    fn from(answer: Result<u32, Misfit>) -> Self {
+        Self {
+            code: code_of(&answer),
+            value: answer.unwrap_or(0),
+        }
     }
 }
 
-fn of_vector(v: Vector) -> Four
-    ensures { result ≡ Codes.four_of (vec_is v) }
-{
-    match v {
-        Vector::Fits(a, b, c, d) => Four {
-            code: 0,
-            a: a,
-            b: b,
-            c: c,
-            d: d,
-        },
-        Vector::Unfit => Four {
-            code: 1,
-            a: 0,
-            b: 0,
-            c: 0,
-            d: 0,
-        },
-        Vector::FloatText => Four {
-            code: 11,
-            a: 0,
-            b: 0,
-            c: 0,
-            d: 0,
-        },
+impl From<Result<[u32; 4], Misfit>> for Four {
+    ghost from_gives = { λ answer r. r ≡ Codes.four_of answer };
+
+    fn from(answer: Result<[u32; 4], Misfit>) -> Self {
+        let [a, b, c, d] = answer.unwrap_or([0; 4]);
+        Self {
+            code: code_of(&answer),
+            a,
+            b,
+            c,
+            d,
+        }
     }
 }
 
@@ -169,39 +162,34 @@ pub extern "C" fn leaf_i64_of_f32(b: u32) -> i64
 // A radix below 2 or above 36 gives code 1.
 #[unsafe(no_mangle)]
 pub extern "C" fn leaf_i64_of(s: &[u8], radix: u64) -> Signed
-    ensures { result ≡ Codes.of_whole (whole_is (Codes.signed_in radix s.now)) }
+    ensures { result ≡ Codes.signed_of (Codes.there (Codes.signed_in radix s.now)) }
 {
-    if radix < 2 {
-        return Signed { code: 1, value: 0 };
-    }
-    if 36 < radix {
-        return Signed { code: 1, value: 0 };
-    }
-    match i64_of(s, radix) {
-        Whole::Value(x) => Signed { code: 0, value: x },
-        Whole::Bad => Signed { code: 1, value: 0 },
-    }
+    let read = if (2..=36).contains(&radix) {
+        i64_of(s, radix)
+    } else {
+        None
+    };
+    read.ok_or(Misfit::Unfit).into()
 }
 
 // A radix below 2 or above 36 gives code 1.
 #[unsafe(no_mangle)]
 pub extern "C" fn leaf_u64_of(s: &[u8], radix: u64) -> Unsigned
-    ensures { result ≡ Codes.of_number (number_is (Codes.unsigned_in radix s.now)) }
+    ensures { result ≡ Codes.unsigned_of (Codes.there (Codes.unsigned_in radix s.now)) }
 {
-    if radix < 2 {
-        return Unsigned { code: 1, value: 0 };
-    }
-    if 36 < radix {
-        return Unsigned { code: 1, value: 0 };
-    }
-    of_number(u64_of(s, radix))
+    let read = if (2..=36).contains(&radix) {
+        u64_of(s, radix)
+    } else {
+        None
+    };
+    read.ok_or(Misfit::Unfit).into()
 }
 
 #[unsafe(no_mangle)]
 pub extern "C" fn leaf_hex_u32_of(s: &[u8]) -> Small
-    ensures { result ≡ Codes.of_word (word_is (unsigned 32 16 s.now)) }
+    ensures { result ≡ Codes.small_of (Codes.there (unsigned 32 16 s.now)) }
 {
-    of_word(hex_u32_of(s))
+    hex_u32_of(s).ok_or(Misfit::Unfit).into()
 }
 
 #[unsafe(no_mangle)]
@@ -221,23 +209,23 @@ pub extern "C" fn leaf_trim(s: &[u8], out: &mut [u8]) -> usize
 
 #[unsafe(no_mangle)]
 pub extern "C" fn leaf_int_of(sheet: &[u8], r: usize) -> Unsigned
-    ensures { result ≡ Codes.of_int (int_is (int_of sheet.now (row sheet.now r))) }
+    ensures { result ≡ Codes.unsigned_of (int_of sheet.now (row sheet.now r)) }
 {
-    of_int(int_of(sheet, read_row(sheet, r)))
+    int_of(sheet, read_row(sheet, r)).into()
 }
 
 #[unsafe(no_mangle)]
 pub extern "C" fn leaf_float_of(sheet: &[u8], r: usize) -> Small
-    ensures { result ≡ Codes.of_bits (bits_is (float_of sheet.now (row sheet.now r))) }
+    ensures { result ≡ Codes.small_of (float_of sheet.now (row sheet.now r)) }
 {
-    of_bits(float_of(sheet, read_row(sheet, r)))
+    float_of(sheet, read_row(sheet, r)).into()
 }
 
 #[unsafe(no_mangle)]
 pub extern "C" fn leaf_vec_of(sheet: &[u8], r: usize, n: usize) -> Four
     ensures { result ≡ Codes.four_of (vec_of sheet.now n (row sheet.now r)) }
 {
-    of_vector(vec_of(sheet, read_row(sheet, r), n))
+    vec_of(sheet, read_row(sheet, r), n).into()
 }
 
 #[unsafe(no_mangle)]
@@ -257,9 +245,21 @@ pub extern "C" fn leaf_str_of(sheet: &[u8], r: usize, out: &mut [u8]) -> usize
 
 #[unsafe(no_mangle)]
 pub extern "C" fn leaf_hash_of(sheet: &[u8], r: usize) -> Small
-    ensures { result ≡ Codes.of_word (word_is (hash_of sheet.now (row sheet.now r))) }
+    ensures { result ≡ Codes.small_of (Codes.there (hash_of sheet.now (row sheet.now r))) }
 {
-    of_word(hash_of(sheet, read_row(sheet, r)))
+    hash_of(sheet, read_row(sheet, r))
+        .ok_or(Misfit::Unfit)
+        .into()
+}
+
+// The count entries at `at` of the schema. A place of 2^63 or more, or a count of 2^24 or more, does not fit.
+fn entries_in(schema: &[u8], at: usize, count: usize) -> Result<Entries<'_>, Misfit>
+    ensures { Codes.AreEntries schema.now at count result }
+{
+    if at < 0x8000_0000_0000_0000 && count < 0x100_0000 {
+        return Ok(Entries { schema, at, count });
+    }
+    Err(Misfit::Unfit)
 }
 
 // The n entries stand at `at` of the schema. A place of 2^63 or more, or a count of 2^24 or more, gives code 1.
@@ -271,15 +271,11 @@ pub extern "C" fn leaf_enum_value(
     n: usize,
     r: usize,
 ) -> Small
-    ensures { result ≡ Codes.of_bits (bits_is (Codes.enum_in sheet.now schema.now n at r)) }
+    ensures { result ≡ Codes.small_of (Codes.enum_in sheet.now schema.now n at r) }
 {
-    if 0x8000_0000_0000_0000 <= at {
-        return Small { code: 1, value: 0 };
-    }
-    if 0x100_0000 <= n {
-        return Small { code: 1, value: 0 };
-    }
-    of_bits(enum_value(sheet, schema, at, n, read_row(sheet, r)))
+    entries_in(schema, at, n)
+        .and_then(|entries| enum_value(sheet, entries, read_row(sheet, r)))
+        .into()
 }
 
 // The n entries stand at `at` of the schema. A place of 2^63 or more, or a count of 2^24 or more, gives code 1.
@@ -291,13 +287,9 @@ pub extern "C" fn leaf_flags_bits(
     n: usize,
     r: usize,
 ) -> Small
-    ensures { result ≡ Codes.of_bits (bits_is (Codes.flags_in sheet.now schema.now n at r)) }
+    ensures { result ≡ Codes.small_of (Codes.flags_in sheet.now schema.now n at r) }
 {
-    if 0x8000_0000_0000_0000 <= at {
-        return Small { code: 1, value: 0 };
-    }
-    if 0x100_0000 <= n {
-        return Small { code: 1, value: 0 };
-    }
-    of_bits(flags_bits(sheet, schema, at, n, 64, read_row(sheet, r)))
+    entries_in(schema, at, n)
+        .and_then(|entries| flags_bits(sheet, entries, 64, read_row(sheet, r)))
+        .into()
 }

@@ -1,5 +1,5 @@
 -- The laws that belong to no one function.
 pub mod Mono
-pub mod Hashing
+pub mod Finding
 pub mod Splits
-pub mod Items
+pub mod Marks

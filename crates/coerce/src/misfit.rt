@@ -1,0 +1,8 @@
+// Why a row gives no value.
+
+// It does not fit, or it is a float's text (refusal 11).
+#[derive(Clone, Copy, Debug, PartialEq, Eq)]
+pub enum Misfit {
+    Unfit,
+    FloatText,
+}
