@@ -1,12 +1,13 @@
 -- Texts and numbers with their coercions.
-use Rattle.std.specs.Prelude.{ℕ, ◌≡◌, refl, cond, List, [], ◌∷◌, map, length}
+use Rattle.std.specs.Prelude.{ℕ, ◌≡◌, refl, cond, List, [], ◌∷◌, map, length, Ok, Err}
 use Rattle.numbers.specs.Words.{Bytes}
 use Rattle.conversions.specs.Signed.{signed_of, word_of}
 use Rattle.conversions.specs.Round.{f32_of}
 use Rattle.conversions.specs.Trunc.{i64_of}
 use Rattle.texts.specs.Text.{trimmed, parts}
 use Rattle.texts.specs.Float.{parses_float}
-use Rattle.coerce.specs.Numbers.{Fit, fits, unfit, float_text, int_text}
+use Rattle.coerce.specs.Numbers.{Fit, int_text}
+use Rattle.coerce.specs.declared.misfit.Misfit.TheVariants.{Unfit, FloatText}
 use Rattle.names.specs.Names.{hash_text}
 use Rattle.layout.specs.Eval
 
@@ -20,7 +21,7 @@ read t = reading (cond (parses_float (trimmed t)) 1 0) (int_text (trimmed t)) (h
 texts : List Bytes
 texts = ([]) ∷ (32 ∷ []) ∷ (84 ∷ 82 ∷ 85 ∷ 69 ∷ 32 ∷ []) ∷ (9 ∷ 70 ∷ 97 ∷ 108 ∷ 115 ∷ 101 ∷ []) ∷ (11 ∷ 12 ∷ 55 ∷ 13 ∷ 10 ∷ []) ∷ (97 ∷ []) ∷ (98 ∷ []) ∷ (114 ∷ 101 ∷ 100 ∷ []) ∷ (66 ∷ 108 ∷ 117 ∷ 101 ∷ []) ∷ (70 ∷ 76 ∷ 65 ∷ 71 ∷ 95 ∷ 65 ∷ []) ∷ (70 ∷ 76 ∷ 65 ∷ 71 ∷ 95 ∷ 66 ∷ []) ∷ (116 ∷ 114 ∷ 117 ∷ 101 ∷ []) ∷ (120 ∷ 49 ∷ []) ∷ (104 ∷ 97 ∷ 115 ∷ 104 ∷ 95 ∷ 49 ∷ 70 ∷ []) ∷ (48 ∷ 120 ∷ 50 ∷ 65 ∷ []) ∷ (48 ∷ 120 ∷ 49 ∷ 71 ∷ []) ∷ (110 ∷ 97 ∷ 110 ∷ 120 ∷ []) ∷ (105 ∷ 110 ∷ 102 ∷ 95 ∷ []) ∷ (45 ∷ []) ∷ (49 ∷ 120 ∷ []) ∷ (107 ∷ []) ∷ (48 ∷ []) ∷ (49 ∷ []) ∷ (55 ∷ []) ∷ (45 ∷ 49 ∷ []) ∷ (43 ∷ 53 ∷ []) ∷ (45 ∷ 48 ∷ []) ∷ (48 ∷ 48 ∷ 55 ∷ []) ∷ (50 ∷ 53 ∷ 53 ∷ []) ∷ (50 ∷ 53 ∷ 54 ∷ []) ∷ (45 ∷ 49 ∷ 50 ∷ 56 ∷ []) ∷ (54 ∷ 53 ∷ 53 ∷ 51 ∷ 54 ∷ []) ∷ (50 ∷ 49 ∷ 52 ∷ 55 ∷ 52 ∷ 56 ∷ 51 ∷ 54 ∷ 52 ∷ 56 ∷ []) ∷ (52 ∷ 50 ∷ 57 ∷ 52 ∷ 57 ∷ 54 ∷ 55 ∷ 50 ∷ 57 ∷ 53 ∷ []) ∷ (52 ∷ 50 ∷ 57 ∷ 52 ∷ 57 ∷ 54 ∷ 55 ∷ 50 ∷ 57 ∷ 54 ∷ []) ∷ (57 ∷ 50 ∷ 50 ∷ 51 ∷ 51 ∷ 55 ∷ 50 ∷ 48 ∷ 51 ∷ 54 ∷ 56 ∷ 53 ∷ 52 ∷ 55 ∷ 55 ∷ 53 ∷ 56 ∷ 48 ∷ 55 ∷ []) ∷ (57 ∷ 50 ∷ 50 ∷ 51 ∷ 51 ∷ 55 ∷ 50 ∷ 48 ∷ 51 ∷ 54 ∷ 56 ∷ 53 ∷ 52 ∷ 55 ∷ 55 ∷ 53 ∷ 56 ∷ 48 ∷ 56 ∷ []) ∷ (45 ∷ 57 ∷ 50 ∷ 50 ∷ 51 ∷ 51 ∷ 55 ∷ 50 ∷ 48 ∷ 51 ∷ 54 ∷ 56 ∷ 53 ∷ 52 ∷ 55 ∷ 55 ∷ 53 ∷ 56 ∷ 48 ∷ 56 ∷ []) ∷ (49 ∷ 56 ∷ 52 ∷ 52 ∷ 54 ∷ 55 ∷ 52 ∷ 52 ∷ 48 ∷ 55 ∷ 51 ∷ 55 ∷ 48 ∷ 57 ∷ 53 ∷ 53 ∷ 49 ∷ 54 ∷ 49 ∷ 53 ∷ []) ∷ (43 ∷ 49 ∷ 56 ∷ 52 ∷ 52 ∷ 54 ∷ 55 ∷ 52 ∷ 52 ∷ 48 ∷ 55 ∷ 51 ∷ 55 ∷ 48 ∷ 57 ∷ 53 ∷ 53 ∷ 49 ∷ 54 ∷ 49 ∷ 53 ∷ []) ∷ (49 ∷ 54 ∷ 55 ∷ 55 ∷ 55 ∷ 50 ∷ 49 ∷ 55 ∷ []) ∷ (49 ∷ 54 ∷ 55 ∷ 55 ∷ 55 ∷ 50 ∷ 49 ∷ 57 ∷ []) ∷ (48 ∷ 120 ∷ 48 ∷ []) ∷ (48 ∷ 120 ∷ 49 ∷ 70 ∷ []) ∷ (48 ∷ 88 ∷ 49 ∷ 102 ∷ []) ∷ (48 ∷ 120 ∷ 70 ∷ 70 ∷ 70 ∷ 70 ∷ 70 ∷ 70 ∷ 70 ∷ 70 ∷ []) ∷ (48 ∷ 120 ∷ 55 ∷ 70 ∷ 70 ∷ 70 ∷ 70 ∷ 70 ∷ 70 ∷ 70 ∷ 70 ∷ 70 ∷ 70 ∷ 70 ∷ 70 ∷ 70 ∷ 70 ∷ 70 ∷ []) ∷ (48 ∷ 120 ∷ 56 ∷ 48 ∷ 48 ∷ 48 ∷ 48 ∷ 48 ∷ 48 ∷ 48 ∷ 48 ∷ 48 ∷ 48 ∷ 48 ∷ 48 ∷ 48 ∷ 48 ∷ 48 ∷ []) ∷ (48 ∷ 120 ∷ 70 ∷ 70 ∷ 70 ∷ 70 ∷ 70 ∷ 70 ∷ 70 ∷ 70 ∷ 70 ∷ 70 ∷ 70 ∷ 70 ∷ 70 ∷ 70 ∷ 70 ∷ 70 ∷ []) ∷ (48 ∷ 120 ∷ 45 ∷ 49 ∷ []) ∷ (48 ∷ 120 ∷ 43 ∷ 49 ∷ []) ∷ (48 ∷ 120 ∷ 45 ∷ 56 ∷ 48 ∷ 48 ∷ 48 ∷ 48 ∷ 48 ∷ 48 ∷ 48 ∷ 48 ∷ 48 ∷ 48 ∷ 48 ∷ 48 ∷ 48 ∷ 48 ∷ 48 ∷ []) ∷ (48 ∷ 88 ∷ 102 ∷ 102 ∷ []) ∷ (48 ∷ 48 ∷ 120 ∷ 49 ∷ []) ∷ (43 ∷ 48 ∷ []) ∷ (49 ∷ 50 ∷ []) ∷ (57 ∷ 57 ∷ []) ∷ (51 ∷ 49 ∷ []) ∷ (51 ∷ 50 ∷ []) ∷ (48 ∷ 120 ∷ 50 ∷ 48 ∷ []) ∷ (45 ∷ 51 ∷ 49 ∷ []) ∷ (48 ∷ 120 ∷ []) ∷ (48 ∷ 88 ∷ []) ∷ (48 ∷ 120 ∷ 45 ∷ []) ∷ (48 ∷ 120 ∷ 43 ∷ []) ∷ (48 ∷ 120 ∷ 71 ∷ []) ∷ (48 ∷ 120 ∷ 32 ∷ 49 ∷ []) ∷ (48 ∷ 120 ∷ 49 ∷ 48 ∷ 48 ∷ 48 ∷ 48 ∷ 48 ∷ 48 ∷ 48 ∷ 48 ∷ 48 ∷ 48 ∷ 48 ∷ 48 ∷ 48 ∷ 48 ∷ 48 ∷ 48 ∷ []) ∷ (48 ∷ 120 ∷ 45 ∷ 56 ∷ 48 ∷ 48 ∷ 48 ∷ 48 ∷ 48 ∷ 48 ∷ 48 ∷ 48 ∷ 48 ∷ 48 ∷ 48 ∷ 48 ∷ 48 ∷ 48 ∷ 49 ∷ []) ∷ (43 ∷ []) ∷ (45 ∷ 45 ∷ 49 ∷ []) ∷ (43 ∷ 45 ∷ 49 ∷ []) ∷ (49 ∷ 45 ∷ []) ∷ (49 ∷ 32 ∷ 50 ∷ []) ∷ (116 ∷ 114 ∷ 117 ∷ []) ∷ (116 ∷ 114 ∷ 117 ∷ 101 ∷ 101 ∷ []) ∷ (101 ∷ 53 ∷ []) ∷ (46 ∷ []) ∷ (45 ∷ 46 ∷ []) ∷ (43 ∷ 46 ∷ 101 ∷ 49 ∷ []) ∷ (49 ∷ 101 ∷ []) ∷ (49 ∷ 101 ∷ 43 ∷ []) ∷ (46 ∷ 101 ∷ 53 ∷ []) ∷ (105 ∷ 110 ∷ []) ∷ (105 ∷ 110 ∷ 102 ∷ 105 ∷ 110 ∷ 105 ∷ 116 ∷ []) ∷ (110 ∷ 97 ∷ 110 ∷ 97 ∷ []) ∷ (48 ∷ 120 ∷ 49 ∷ 46 ∷ 53 ∷ []) ∷ (49 ∷ 95 ∷ 48 ∷ []) ∷ (49 ∷ 46 ∷ 53 ∷ []) ∷ (45 ∷ 49 ∷ 46 ∷ 53 ∷ []) ∷ (49 ∷ 46 ∷ []) ∷ (46 ∷ 53 ∷ []) ∷ (43 ∷ 46 ∷ 53 ∷ []) ∷ (49 ∷ 101 ∷ 53 ∷ []) ∷ (49 ∷ 69 ∷ 53 ∷ []) ∷ (49 ∷ 46 ∷ 101 ∷ 53 ∷ []) ∷ (46 ∷ 53 ∷ 101 ∷ 45 ∷ 51 ∷ []) ∷ (49 ∷ 101 ∷ 43 ∷ 49 ∷ 48 ∷ []) ∷ (105 ∷ 110 ∷ 102 ∷ []) ∷ (45 ∷ 105 ∷ 110 ∷ 102 ∷ []) ∷ (43 ∷ 73 ∷ 78 ∷ 70 ∷ []) ∷ (73 ∷ 110 ∷ 102 ∷ 105 ∷ 110 ∷ 105 ∷ 116 ∷ 121 ∷ []) ∷ (110 ∷ 97 ∷ 110 ∷ []) ∷ (78 ∷ 97 ∷ 78 ∷ []) ∷ (45 ∷ 110 ∷ 97 ∷ 110 ∷ []) ∷ (57 ∷ 50 ∷ 50 ∷ 51 ∷ 51 ∷ 55 ∷ 50 ∷ 48 ∷ 51 ∷ 54 ∷ 56 ∷ 53 ∷ 52 ∷ 55 ∷ 55 ∷ 53 ∷ 56 ∷ 48 ∷ 56 ∷ 46 ∷ 48 ∷ []) ∷ (45 ∷ 57 ∷ 50 ∷ 50 ∷ 51 ∷ 51 ∷ 55 ∷ 50 ∷ 48 ∷ 51 ∷ 54 ∷ 56 ∷ 53 ∷ 52 ∷ 55 ∷ 55 ∷ 53 ∷ 56 ∷ 48 ∷ 57 ∷ []) ∷ (49 ∷ 56 ∷ 52 ∷ 52 ∷ 54 ∷ 55 ∷ 52 ∷ 52 ∷ 48 ∷ 55 ∷ 51 ∷ 55 ∷ 48 ∷ 57 ∷ 53 ∷ 53 ∷ 49 ∷ 54 ∷ 49 ∷ 54 ∷ []) ∷ (57 ∷ 57 ∷ 57 ∷ 57 ∷ 57 ∷ 57 ∷ 57 ∷ 57 ∷ 57 ∷ 57 ∷ 57 ∷ 57 ∷ 57 ∷ 57 ∷ 57 ∷ 57 ∷ 57 ∷ 57 ∷ 57 ∷ 57 ∷ []) ∷ (48 ∷ 48 ∷ 46 ∷ 48 ∷ 48 ∷ []) ∷ (48 ∷ 101 ∷ 48 ∷ []) ∷ (45 ∷ 48 ∷ 46 ∷ 48 ∷ []) ∷ (49 ∷ 101 ∷ 57 ∷ 57 ∷ 57 ∷ []) ∷ (49 ∷ 101 ∷ 45 ∷ 57 ∷ 57 ∷ 57 ∷ []) ∷ (43 ∷ 49 ∷ 101 ∷ 49 ∷ []) ∷ (51 ∷ 46 ∷ []) ∷ (49 ∷ 50 ∷ 51 ∷ 52 ∷ 53 ∷ 54 ∷ 55 ∷ 56 ∷ 57 ∷ 101 ∷ 49 ∷ 50 ∷ []) ∷ (45 ∷ 49 ∷ 56 ∷ 52 ∷ 52 ∷ 54 ∷ 55 ∷ 52 ∷ 52 ∷ 48 ∷ 55 ∷ 51 ∷ 55 ∷ 48 ∷ 57 ∷ 53 ∷ 53 ∷ 49 ∷ 54 ∷ 49 ∷ 53 ∷ []) ∷ (104 ∷ 97 ∷ 115 ∷ 104 ∷ 95 ∷ []) ∷ (104 ∷ 97 ∷ 115 ∷ 104 ∷ 95 ∷ 48 ∷ 120 ∷ 49 ∷ 70 ∷ []) ∷ (104 ∷ 97 ∷ 115 ∷ 104 ∷ 95 ∷ 70 ∷ 70 ∷ 70 ∷ 70 ∷ 70 ∷ 70 ∷ 70 ∷ 70 ∷ []) ∷ (104 ∷ 97 ∷ 115 ∷ 104 ∷ 95 ∷ 49 ∷ 48 ∷ 48 ∷ 48 ∷ 48 ∷ 48 ∷ 48 ∷ 48 ∷ 48 ∷ []) ∷ (104 ∷ 97 ∷ 115 ∷ 104 ∷ 95 ∷ 43 ∷ 49 ∷ []) ∷ (104 ∷ 97 ∷ 115 ∷ 104 ∷ 95 ∷ 45 ∷ 49 ∷ []) ∷ (104 ∷ 97 ∷ 115 ∷ 104 ∷ 95 ∷ 103 ∷ []) ∷ (48 ∷ 88 ∷ 49 ∷ 70 ∷ []) ∷ (48 ∷ 120 ∷ 49 ∷ 48 ∷ 48 ∷ 48 ∷ 48 ∷ 48 ∷ 48 ∷ 48 ∷ 48 ∷ []) ∷ (72 ∷ 97 ∷ 115 ∷ 104 ∷ 95 ∷ 49 ∷ 70 ∷ []) ∷ (112 ∷ 114 ∷ 111 ∷ 112 ∷ 95 ∷ 98 ∷ 101 ∷ 110 ∷ 99 ∷ 104 ∷ []) ∷ (104 ∷ 97 ∷ 115 ∷ 104 ∷ 95 ∷ 32 ∷ 49 ∷ []) ∷ (71 ∷ []) ∷ (71 ∷ 71 ∷ []) ∷ (48 ∷ 88 ∷ 110 ∷ 97 ∷ 110 ∷ []) ∷ (46 ∷ 32 ∷ 48 ∷ 88 ∷ 49 ∷ 50 ∷ []) ∷ (43 ∷ 102 ∷ 97 ∷ 108 ∷ 115 ∷ 101 ∷ 102 ∷ 70 ∷ 102 ∷ 97 ∷ 108 ∷ 115 ∷ 101 ∷ []) ∷ (102 ∷ 70 ∷ 48 ∷ 88 ∷ []) ∷ (9 ∷ 110 ∷ 97 ∷ 110 ∷ 105 ∷ 110 ∷ 102 ∷ 48 ∷ 88 ∷ []) ∷ (48 ∷ 88 ∷ 9 ∷ []) ∷ (102 ∷ 70 ∷ []) ∷ (101 ∷ 48 ∷ 48 ∷ 55 ∷ 105 ∷ 110 ∷ 102 ∷ 105 ∷ 110 ∷ 105 ∷ 116 ∷ 121 ∷ 49 ∷ 50 ∷ []) ∷ (32 ∷ 49 ∷ 50 ∷ 57 ∷ []) ∷ (95 ∷ 48 ∷ 48 ∷ 55 ∷ []) ∷ (104 ∷ 97 ∷ 115 ∷ 104 ∷ 95 ∷ 101 ∷ []) ∷ (97 ∷ 32 ∷ []) ∷ (102 ∷ 97 ∷ 108 ∷ 115 ∷ 101 ∷ 49 ∷ 50 ∷ 46 ∷ 71 ∷ 48 ∷ 120 ∷ []) ∷ (46 ∷ 105 ∷ 110 ∷ 102 ∷ 105 ∷ 110 ∷ 105 ∷ 116 ∷ 121 ∷ 102 ∷ 70 ∷ 48 ∷ 88 ∷ 9 ∷ []) ∷ (104 ∷ 97 ∷ 115 ∷ 104 ∷ 95 ∷ 49 ∷ 105 ∷ 110 ∷ 102 ∷ 49 ∷ 48 ∷ 120 ∷ []) ∷ (57 ∷ 46 ∷ 110 ∷ 97 ∷ 110 ∷ []) ∷ (97 ∷ 9 ∷ 105 ∷ 110 ∷ 102 ∷ 105 ∷ 110 ∷ 105 ∷ 116 ∷ 121 ∷ []) ∷ (116 ∷ 114 ∷ 117 ∷ 101 ∷ 44 ∷ []) ∷ (49 ∷ 50 ∷ 32 ∷ 46 ∷ []) ∷ (48 ∷ 48 ∷ 55 ∷ 48 ∷ 88 ∷ 46 ∷ 101 ∷ 49 ∷ 50 ∷ []) ∷ (48 ∷ 88 ∷ 116 ∷ 114 ∷ 117 ∷ 101 ∷ 102 ∷ 97 ∷ 108 ∷ 115 ∷ 101 ∷ []) ∷ (102 ∷ 70 ∷ 32 ∷ 45 ∷ []) ∷ (101 ∷ 97 ∷ 104 ∷ 97 ∷ 115 ∷ 104 ∷ 95 ∷ 49 ∷ 57 ∷ []) ∷ (105 ∷ 110 ∷ 102 ∷ 105 ∷ 110 ∷ 105 ∷ 116 ∷ 121 ∷ 71 ∷ 69 ∷ 44 ∷ []) ∷ (116 ∷ 114 ∷ 117 ∷ 101 ∷ 48 ∷ 88 ∷ []) ∷ (95 ∷ 57 ∷ 49 ∷ 50 ∷ []) ∷ (105 ∷ 110 ∷ 102 ∷ 105 ∷ 110 ∷ 105 ∷ 116 ∷ 121 ∷ 69 ∷ 9 ∷ 48 ∷ 48 ∷ 55 ∷ []) ∷ (44 ∷ []) ∷ (49 ∷ 50 ∷ 69 ∷ 102 ∷ 97 ∷ 108 ∷ 115 ∷ 101 ∷ 97 ∷ 48 ∷ 48 ∷ 55 ∷ []) ∷ (97 ∷ 101 ∷ 97 ∷ 48 ∷ 48 ∷ 55 ∷ 9 ∷ []) ∷ (105 ∷ 110 ∷ 102 ∷ 105 ∷ 110 ∷ 105 ∷ 116 ∷ 121 ∷ []) ∷ (32 ∷ 49 ∷ 50 ∷ 9 ∷ 44 ∷ []) ∷ (104 ∷ 97 ∷ 115 ∷ 104 ∷ 95 ∷ 105 ∷ 110 ∷ 102 ∷ 49 ∷ []) ∷ (45 ∷ 9 ∷ 71 ∷ 110 ∷ 97 ∷ 110 ∷ []) ∷ (48 ∷ 120 ∷ 9 ∷ 45 ∷ 102 ∷ 70 ∷ []) ∷ (97 ∷ 110 ∷ 97 ∷ 110 ∷ 102 ∷ 70 ∷ 110 ∷ 97 ∷ 110 ∷ []) ∷ (44 ∷ 46 ∷ 102 ∷ 70 ∷ 97 ∷ []) ∷ (116 ∷ 114 ∷ 117 ∷ 101 ∷ 102 ∷ 70 ∷ []) ∷ (49 ∷ 50 ∷ 44 ∷ 102 ∷ 97 ∷ 108 ∷ 115 ∷ 101 ∷ 48 ∷ 120 ∷ []) ∷ (95 ∷ 101 ∷ 9 ∷ 45 ∷ 71 ∷ []) ∷ (105 ∷ 110 ∷ 102 ∷ 69 ∷ 46 ∷ 43 ∷ []) ∷ (46 ∷ 69 ∷ 49 ∷ []) ∷ (48 ∷ 88 ∷ 116 ∷ 114 ∷ 117 ∷ 101 ∷ 57 ∷ 97 ∷ []) ∷ (101 ∷ 95 ∷ 102 ∷ 97 ∷ 108 ∷ 115 ∷ 101 ∷ []) ∷ (46 ∷ 49 ∷ []) ∷ (104 ∷ 97 ∷ 115 ∷ 104 ∷ 95 ∷ 46 ∷ 45 ∷ 45 ∷ 102 ∷ 70 ∷ []) ∷ (46 ∷ 104 ∷ 97 ∷ 115 ∷ 104 ∷ 95 ∷ 9 ∷ []) ∷ (48 ∷ 120 ∷ 48 ∷ 120 ∷ []) ∷ (102 ∷ 70 ∷ 71 ∷ []) ∷ (44 ∷ 102 ∷ 97 ∷ 108 ∷ 115 ∷ 101 ∷ 102 ∷ 97 ∷ 108 ∷ 115 ∷ 101 ∷ 48 ∷ 120 ∷ []) ∷ (44 ∷ 105 ∷ 110 ∷ 102 ∷ 57 ∷ 104 ∷ 97 ∷ 115 ∷ 104 ∷ 95 ∷ []) ∷ (95 ∷ 9 ∷ 45 ∷ []) ∷ (110 ∷ 97 ∷ 110 ∷ 105 ∷ 110 ∷ 102 ∷ 105 ∷ 110 ∷ 105 ∷ 116 ∷ 121 ∷ []) ∷ (57 ∷ 104 ∷ 97 ∷ 115 ∷ 104 ∷ 95 ∷ []) ∷ (101 ∷ 97 ∷ 48 ∷ 48 ∷ 55 ∷ 49 ∷ []) ∷ (57 ∷ 101 ∷ 102 ∷ 70 ∷ []) ∷ (110 ∷ 97 ∷ 110 ∷ 69 ∷ 110 ∷ 97 ∷ 110 ∷ 69 ∷ 101 ∷ []) ∷ (49 ∷ 95 ∷ []) ∷ (45 ∷ 32 ∷ []) ∷ (101 ∷ 71 ∷ 105 ∷ 110 ∷ 102 ∷ 105 ∷ 110 ∷ 105 ∷ 116 ∷ 121 ∷ 97 ∷ 71 ∷ []) ∷ (104 ∷ 97 ∷ 115 ∷ 104 ∷ 95 ∷ 110 ∷ 97 ∷ 110 ∷ 69 ∷ 45 ∷ 104 ∷ 97 ∷ 115 ∷ 104 ∷ 95 ∷ []) ∷ (101 ∷ 105 ∷ 110 ∷ 102 ∷ 110 ∷ 97 ∷ 110 ∷ 104 ∷ 97 ∷ 115 ∷ 104 ∷ 95 ∷ []) ∷ (105 ∷ 110 ∷ 102 ∷ 105 ∷ 110 ∷ 105 ∷ 116 ∷ 121 ∷ 49 ∷ 105 ∷ 110 ∷ 102 ∷ 105 ∷ 110 ∷ 105 ∷ 116 ∷ 121 ∷ 110 ∷ 97 ∷ 110 ∷ 49 ∷ 50 ∷ []) ∷ (102 ∷ 70 ∷ 116 ∷ 114 ∷ 117 ∷ 101 ∷ []) ∷ (48 ∷ 48 ∷ 55 ∷ 57 ∷ 9 ∷ 97 ∷ []) ∷ (110 ∷ 97 ∷ 110 ∷ 105 ∷ 110 ∷ 102 ∷ 105 ∷ 110 ∷ 105 ∷ 116 ∷ 121 ∷ 48 ∷ 120 ∷ 9 ∷ []) ∷ (49 ∷ 50 ∷ 69 ∷ 116 ∷ 114 ∷ 117 ∷ 101 ∷ 48 ∷ 88 ∷ []) ∷ (97 ∷ 116 ∷ 114 ∷ 117 ∷ 101 ∷ 32 ∷ []) ∷ (49 ∷ 49 ∷ 69 ∷ 44 ∷ []) ∷ (48 ∷ 88 ∷ 102 ∷ 97 ∷ 108 ∷ 115 ∷ 101 ∷ 32 ∷ 102 ∷ 97 ∷ 108 ∷ 115 ∷ 101 ∷ 49 ∷ 50 ∷ []) ∷ (9 ∷ 105 ∷ 110 ∷ 102 ∷ 105 ∷ 110 ∷ 105 ∷ 116 ∷ 121 ∷ []) ∷ (46 ∷ 32 ∷ 49 ∷ 44 ∷ []) ∷ (45 ∷ 105 ∷ 110 ∷ 102 ∷ 45 ∷ 32 ∷ 9 ∷ []) ∷ (97 ∷ 105 ∷ 110 ∷ 102 ∷ []) ∷ (45 ∷ 9 ∷ 104 ∷ 97 ∷ 115 ∷ 104 ∷ 95 ∷ 101 ∷ 43 ∷ []) ∷ (95 ∷ 43 ∷ 101 ∷ []) ∷ (48 ∷ 48 ∷ 55 ∷ 49 ∷ 50 ∷ 49 ∷ 50 ∷ []) ∷ (102 ∷ 70 ∷ 43 ∷ 105 ∷ 110 ∷ 102 ∷ 105 ∷ 110 ∷ 105 ∷ 116 ∷ 121 ∷ []) ∷ (49 ∷ 50 ∷ 95 ∷ 69 ∷ 95 ∷ []) ∷ (101 ∷ 105 ∷ 110 ∷ 102 ∷ 95 ∷ 43 ∷ []) ∷ (116 ∷ 114 ∷ 117 ∷ 101 ∷ 9 ∷ 49 ∷ []) ∷ (46 ∷ 69 ∷ 44 ∷ []) ∷ (48 ∷ 88 ∷ 102 ∷ 97 ∷ 108 ∷ 115 ∷ 101 ∷ []) ∷ (48 ∷ 88 ∷ 32 ∷ []) ∷ (97 ∷ 102 ∷ 70 ∷ 101 ∷ []) ∷ (110 ∷ 97 ∷ 110 ∷ 57 ∷ 9 ∷ 105 ∷ 110 ∷ 102 ∷ 105 ∷ 110 ∷ 105 ∷ 116 ∷ 121 ∷ []) ∷ (110 ∷ 97 ∷ 110 ∷ 69 ∷ 44 ∷ 105 ∷ 110 ∷ 102 ∷ []) ∷ (105 ∷ 110 ∷ 102 ∷ 105 ∷ 110 ∷ 105 ∷ 116 ∷ 121 ∷ 101 ∷ 102 ∷ 70 ∷ 102 ∷ 70 ∷ []) ∷ (49 ∷ 50 ∷ 48 ∷ 88 ∷ 57 ∷ 71 ∷ 49 ∷ []) ∷ (101 ∷ []) ∷ (9 ∷ []) ∷ (101 ∷ 48 ∷ 120 ∷ 49 ∷ 104 ∷ 97 ∷ 115 ∷ 104 ∷ 95 ∷ []) ∷ (104 ∷ 97 ∷ 115 ∷ 104 ∷ 95 ∷ 102 ∷ 70 ∷ 97 ∷ []) ∷ (104 ∷ 97 ∷ 115 ∷ 104 ∷ 95 ∷ 102 ∷ 97 ∷ 108 ∷ 115 ∷ 101 ∷ 69 ∷ []) ∷ (9 ∷ 48 ∷ 48 ∷ 55 ∷ []) ∷ (116 ∷ 114 ∷ 117 ∷ 101 ∷ 105 ∷ 110 ∷ 102 ∷ 105 ∷ 110 ∷ 105 ∷ 116 ∷ 121 ∷ 44 ∷ 44 ∷ []) ∷ (95 ∷ 116 ∷ 114 ∷ 117 ∷ 101 ∷ 116 ∷ 114 ∷ 117 ∷ 101 ∷ 32 ∷ []) ∷ (95 ∷ 48 ∷ 48 ∷ 55 ∷ 43 ∷ 32 ∷ []) ∷ (105 ∷ 110 ∷ 102 ∷ 116 ∷ 114 ∷ 117 ∷ 101 ∷ 44 ∷ []) ∷ (46 ∷ 57 ∷ []) ∷ (105 ∷ 110 ∷ 102 ∷ 48 ∷ 120 ∷ 57 ∷ 48 ∷ 48 ∷ 55 ∷ []) ∷ (44 ∷ 48 ∷ 88 ∷ 116 ∷ 114 ∷ 117 ∷ 101 ∷ []) ∷ (69 ∷ []) ∷ (43 ∷ 95 ∷ 43 ∷ 49 ∷ 50 ∷ 105 ∷ 110 ∷ 102 ∷ 105 ∷ 110 ∷ 105 ∷ 116 ∷ 121 ∷ []) ∷ (105 ∷ 110 ∷ 102 ∷ 105 ∷ 110 ∷ 105 ∷ 116 ∷ 121 ∷ 105 ∷ 110 ∷ 102 ∷ 102 ∷ 70 ∷ 32 ∷ []) ∷ (57 ∷ []) ∷ (110 ∷ 97 ∷ 110 ∷ 116 ∷ 114 ∷ 117 ∷ 101 ∷ 105 ∷ 110 ∷ 102 ∷ 105 ∷ 110 ∷ 105 ∷ 116 ∷ 121 ∷ 102 ∷ 70 ∷ []) ∷ (105 ∷ 110 ∷ 102 ∷ 101 ∷ 101 ∷ 110 ∷ 97 ∷ 110 ∷ []) ∷ (102 ∷ 97 ∷ 108 ∷ 115 ∷ 101 ∷ 49 ∷ 43 ∷ 48 ∷ 48 ∷ 55 ∷ []) ∷ (48 ∷ 48 ∷ 55 ∷ 101 ∷ []) ∷ (102 ∷ 70 ∷ 45 ∷ 102 ∷ 70 ∷ []) ∷ (49 ∷ 105 ∷ 110 ∷ 102 ∷ 105 ∷ 110 ∷ 105 ∷ 116 ∷ 121 ∷ 49 ∷ []) ∷ (95 ∷ 9 ∷ []) ∷ (110 ∷ 97 ∷ 110 ∷ 104 ∷ 97 ∷ 115 ∷ 104 ∷ 95 ∷ 45 ∷ 48 ∷ 48 ∷ 55 ∷ []) ∷ (95 ∷ []) ∷ (48 ∷ 48 ∷ 55 ∷ 104 ∷ 97 ∷ 115 ∷ 104 ∷ 95 ∷ 32 ∷ 102 ∷ 97 ∷ 108 ∷ 115 ∷ 101 ∷ 43 ∷ []) ∷ (57 ∷ 102 ∷ 97 ∷ 108 ∷ 115 ∷ 101 ∷ 49 ∷ 50 ∷ 110 ∷ 97 ∷ 110 ∷ []) ∷ (48 ∷ 120 ∷ 57 ∷ 104 ∷ 97 ∷ 115 ∷ 104 ∷ 95 ∷ []) ∷ (105 ∷ 110 ∷ 102 ∷ 105 ∷ 110 ∷ 105 ∷ 116 ∷ 121 ∷ 104 ∷ 97 ∷ 115 ∷ 104 ∷ 95 ∷ 101 ∷ 44 ∷ []) ∷ (43 ∷ 43 ∷ 57 ∷ 49 ∷ 50 ∷ []) ∷ (48 ∷ 88 ∷ 95 ∷ 71 ∷ 32 ∷ 110 ∷ 97 ∷ 110 ∷ []) ∷ (46 ∷ 110 ∷ 97 ∷ 110 ∷ 105 ∷ 110 ∷ 102 ∷ []) ∷ (97 ∷ 49 ∷ []) ∷ (48 ∷ 48 ∷ 55 ∷ 116 ∷ 114 ∷ 117 ∷ 101 ∷ 46 ∷ 44 ∷ 9 ∷ []) ∷ (110 ∷ 97 ∷ 110 ∷ 48 ∷ 48 ∷ 55 ∷ 71 ∷ []) ∷ (116 ∷ 114 ∷ 117 ∷ 101 ∷ 43 ∷ []) ∷ (116 ∷ 114 ∷ 117 ∷ 101 ∷ 57 ∷ 48 ∷ 120 ∷ 9 ∷ 32 ∷ []) ∷ (46 ∷ 49 ∷ 49 ∷ 50 ∷ 49 ∷ 50 ∷ 48 ∷ 48 ∷ 55 ∷ []) ∷ (105 ∷ 110 ∷ 102 ∷ 57 ∷ 71 ∷ 105 ∷ 110 ∷ 102 ∷ 105 ∷ 110 ∷ 105 ∷ 116 ∷ 121 ∷ []) ∷ (32 ∷ 57 ∷ 105 ∷ 110 ∷ 102 ∷ 105 ∷ 110 ∷ 105 ∷ 116 ∷ 121 ∷ 48 ∷ 48 ∷ 55 ∷ 105 ∷ 110 ∷ 102 ∷ 105 ∷ 110 ∷ 105 ∷ 116 ∷ 121 ∷ []) ∷ (32 ∷ 69 ∷ 32 ∷ []) ∷ (43 ∷ 102 ∷ 70 ∷ []) ∷ (48 ∷ 48 ∷ 55 ∷ 69 ∷ 101 ∷ []) ∷ (49 ∷ 50 ∷ 45 ∷ []) ∷ (48 ∷ 48 ∷ 55 ∷ 116 ∷ 114 ∷ 117 ∷ 101 ∷ []) ∷ (49 ∷ 95 ∷ 105 ∷ 110 ∷ 102 ∷ 105 ∷ 110 ∷ 105 ∷ 116 ∷ 121 ∷ []) ∷ (102 ∷ 97 ∷ 108 ∷ 115 ∷ 101 ∷ 57 ∷ []) ∷ (49 ∷ 50 ∷ 44 ∷ 44 ∷ []) ∷ (49 ∷ 69 ∷ []) ∷ (48 ∷ 120 ∷ 101 ∷ 48 ∷ 88 ∷ []) ∷ (101 ∷ 46 ∷ []) ∷ (45 ∷ 48 ∷ 88 ∷ 105 ∷ 110 ∷ 102 ∷ 105 ∷ 110 ∷ 105 ∷ 116 ∷ 121 ∷ []) ∷ (43 ∷ 48 ∷ 120 ∷ 9 ∷ 97 ∷ []) ∷ (46 ∷ 116 ∷ 114 ∷ 117 ∷ 101 ∷ []) ∷ (45 ∷ 44 ∷ []) ∷ (48 ∷ 120 ∷ 105 ∷ 110 ∷ 102 ∷ 49 ∷ []) ∷ (101 ∷ 48 ∷ 120 ∷ 49 ∷ 50 ∷ []) ∷ (45 ∷ 105 ∷ 110 ∷ 102 ∷ 49 ∷ 49 ∷ []) ∷ (45 ∷ 71 ∷ 49 ∷ 97 ∷ []) ∷ (101 ∷ 9 ∷ 110 ∷ 97 ∷ 110 ∷ []) ∷ (57 ∷ 46 ∷ 110 ∷ 97 ∷ 110 ∷ 116 ∷ 114 ∷ 117 ∷ 101 ∷ 45 ∷ []) ∷ (116 ∷ 114 ∷ 117 ∷ 101 ∷ 105 ∷ 110 ∷ 102 ∷ 48 ∷ 120 ∷ 110 ∷ 97 ∷ 110 ∷ []) ∷ (49 ∷ 50 ∷ 48 ∷ 120 ∷ 102 ∷ 97 ∷ 108 ∷ 115 ∷ 101 ∷ []) ∷ (97 ∷ 48 ∷ 88 ∷ 116 ∷ 114 ∷ 117 ∷ 101 ∷ []) ∷ (101 ∷ 32 ∷ 44 ∷ 95 ∷ 44 ∷ []) ∷ (48 ∷ 120 ∷ 110 ∷ 97 ∷ 110 ∷ []) ∷ (71 ∷ 110 ∷ 97 ∷ 110 ∷ 116 ∷ 114 ∷ 117 ∷ 101 ∷ 110 ∷ 97 ∷ 110 ∷ 95 ∷ []) ∷ (110 ∷ 97 ∷ 110 ∷ 48 ∷ 48 ∷ 55 ∷ 49 ∷ 95 ∷ 101 ∷ []) ∷ (46 ∷ 102 ∷ 70 ∷ 105 ∷ 110 ∷ 102 ∷ 105 ∷ 110 ∷ 105 ∷ 116 ∷ 121 ∷ 49 ∷ 50 ∷ 48 ∷ 120 ∷ []) ∷ (48 ∷ 120 ∷ 49 ∷ 50 ∷ 97 ∷ []) ∷ (101 ∷ 105 ∷ 110 ∷ 102 ∷ 105 ∷ 110 ∷ 105 ∷ 116 ∷ 121 ∷ []) ∷ (95 ∷ 102 ∷ 97 ∷ 108 ∷ 115 ∷ 101 ∷ 104 ∷ 97 ∷ 115 ∷ 104 ∷ 95 ∷ 95 ∷ 49 ∷ []) ∷ (57 ∷ 102 ∷ 70 ∷ []) ∷ (102 ∷ 70 ∷ 43 ∷ 43 ∷ 44 ∷ []) ∷ (101 ∷ 43 ∷ 45 ∷ 116 ∷ 114 ∷ 117 ∷ 101 ∷ 97 ∷ []) ∷ (49 ∷ 50 ∷ 49 ∷ 32 ∷ []) ∷ (46 ∷ 44 ∷ 48 ∷ 48 ∷ 55 ∷ []) ∷ (49 ∷ 49 ∷ 69 ∷ 69 ∷ 9 ∷ []) ∷ (105 ∷ 110 ∷ 102 ∷ 116 ∷ 114 ∷ 117 ∷ 101 ∷ 105 ∷ 110 ∷ 102 ∷ 105 ∷ 110 ∷ 105 ∷ 116 ∷ 121 ∷ 43 ∷ []) ∷ (102 ∷ 70 ∷ 57 ∷ []) ∷ (48 ∷ 88 ∷ 97 ∷ 49 ∷ 50 ∷ []) ∷ (69 ∷ 97 ∷ 102 ∷ 97 ∷ 108 ∷ 115 ∷ 101 ∷ 69 ∷ 71 ∷ []) ∷ (48 ∷ 48 ∷ 55 ∷ 48 ∷ 48 ∷ 55 ∷ 44 ∷ 49 ∷ 46 ∷ []) ∷ (44 ∷ 9 ∷ 57 ∷ 43 ∷ 9 ∷ []) ∷ (32 ∷ 49 ∷ 50 ∷ []) ∷ (116 ∷ 114 ∷ 117 ∷ 101 ∷ 71 ∷ 102 ∷ 97 ∷ 108 ∷ 115 ∷ 101 ∷ []) ∷ (48 ∷ 88 ∷ 101 ∷ 44 ∷ 44 ∷ []) ∷ (32 ∷ 101 ∷ 49 ∷ []) ∷ (104 ∷ 97 ∷ 115 ∷ 104 ∷ 95 ∷ 97 ∷ 102 ∷ 97 ∷ 108 ∷ 115 ∷ 101 ∷ []) ∷ (102 ∷ 70 ∷ 69 ∷ 102 ∷ 97 ∷ 108 ∷ 115 ∷ 101 ∷ 97 ∷ 116 ∷ 114 ∷ 117 ∷ 101 ∷ []) ∷ (49 ∷ 50 ∷ 104 ∷ 97 ∷ 115 ∷ 104 ∷ 95 ∷ 104 ∷ 97 ∷ 115 ∷ 104 ∷ 95 ∷ 105 ∷ 110 ∷ 102 ∷ 105 ∷ 110 ∷ 105 ∷ 116 ∷ 121 ∷ 71 ∷ []) ∷ (9 ∷ 102 ∷ 97 ∷ 108 ∷ 115 ∷ 101 ∷ []) ∷ (44 ∷ 102 ∷ 97 ∷ 108 ∷ 115 ∷ 101 ∷ 46 ∷ 48 ∷ 120 ∷ []) ∷ (48 ∷ 48 ∷ 55 ∷ 97 ∷ []) ∷ (49 ∷ 102 ∷ 97 ∷ 108 ∷ 115 ∷ 101 ∷ 95 ∷ 44 ∷ 71 ∷ []) ∷ (105 ∷ 110 ∷ 102 ∷ 71 ∷ []) ∷ (32 ∷ 48 ∷ 120 ∷ 71 ∷ 105 ∷ 110 ∷ 102 ∷ []) ∷ (105 ∷ 110 ∷ 102 ∷ 101 ∷ []) ∷ []
 
-readings : map read texts ≡ reading 0 (fits 0) 0x0 0 ∷ reading 0 (fits 0) 0x0 0 ∷ reading 0 (fits 1) 0x38185521 1 ∷ reading 0 (fits 0) 0xEA6A35B4 1 ∷ reading 1 (fits 7) 0xECC9D984 1 ∷ reading 0 unfit 0xCA2E9442 1 ∷ reading 0 unfit 0xDB819B 1 ∷ reading 0 unfit 0x9872324C 1 ∷ reading 0 unfit 0xD3AC69A2 1 ∷ reading 0 unfit 0x8782BB5F 1 ∷ reading 0 unfit 0x77DD1C14 1 ∷ reading 0 (fits 1) 0xB2F35C25 1 ∷ reading 0 unfit 0x74A7DE27 1 ∷ reading 0 unfit 0x1F 1 ∷ reading 0 (fits 42) 0x2A 1 ∷ reading 0 unfit 0xD62B88A 1 ∷ reading 0 unfit 0x1AD2F57E 1 ∷ reading 0 unfit 0x8E3BFD10 1 ∷ reading 0 unfit 0x371A6E28 1 ∷ reading 0 unfit 0xCE43E52D 1 ∷ reading 0 unfit 0x8034004A 1 ∷ reading 1 (fits 0) 0x6E3C5C6B 1 ∷ reading 1 (fits 1) 0x806B80C9 1 ∷ reading 1 (fits 7) 0xECC9D984 1 ∷ reading 1 (fits 18446744073709551615) 0x9855FFF 1 ∷ reading 1 (fits 5) 0x1E2B0BE2 1 ∷ reading 1 (fits 0) 0x2AB9A26B 1 ∷ reading 1 (fits 7) 0xD80EC868 1 ∷ reading 1 (fits 255) 0x9945F98D 1 ∷ reading 1 (fits 256) 0xC33DCD7C 1 ∷ reading 1 (fits 18446744073709551488) 0x5EC2FB0E 1 ∷ reading 1 (fits 65536) 0xA6F9B458 1 ∷ reading 1 (fits 2147483648) 0x14E248FA 1 ∷ reading 1 (fits 4294967295) 0x8E0596F1 1 ∷ reading 1 (fits 4294967296) 0xA043BB6D 1 ∷ reading 1 (fits 9223372036854775807) 0x496A04CD 1 ∷ reading 1 (fits 9223372036854775808) 0x926216C0 1 ∷ reading 1 (fits 9223372036854775808) 0xBE927974 1 ∷ reading 1 (fits 18446744073709551615) 0xCA4B5AE3 1 ∷ reading 1 (fits 18446744073709551615) 0xB7F5BD41 1 ∷ reading 1 (fits 16777217) 0x9CC9C11B 1 ∷ reading 1 (fits 16777219) 0x7F9286AD 1 ∷ reading 0 (fits 0) 0x0 1 ∷ reading 0 (fits 31) 0x1F 1 ∷ reading 0 (fits 31) 0x1F 1 ∷ reading 0 (fits 4294967295) 0xFFFFFFFF 1 ∷ reading 0 (fits 9223372036854775807) 0xFD6FD67E 1 ∷ reading 0 (fits 9223372036854775808) 0x35CEB604 1 ∷ reading 0 (fits 18446744073709551615) 0xEB80DFF9 1 ∷ reading 0 (fits 18446744073709551615) 0x81731C29 1 ∷ reading 0 (fits 1) 0x1 1 ∷ reading 0 (fits 9223372036854775808) 0xCD81711F 1 ∷ reading 0 (fits 255) 0xFF 1 ∷ reading 0 unfit 0xBB14572C 1 ∷ reading 1 (fits 0) 0xB37E5FC 1 ∷ reading 1 (fits 12) 0x7401B0B6 1 ∷ reading 1 (fits 99) 0x43E6C589 1 ∷ reading 1 (fits 31) 0xAECE241E 1 ∷ reading 1 (fits 32) 0xE6C01401 1 ∷ reading 0 (fits 32) 0x20 1 ∷ reading 1 (fits 18446744073709551585) 0xBFDA8FF7 1 ∷ reading 0 unfit 0xB16CAC9F 1 ∷ reading 0 unfit 0x989D7B05 1 ∷ reading 0 unfit 0xC52165CE 1 ∷ reading 0 unfit 0x5BE69362 1 ∷ reading 0 unfit 0xBC1953C6 1 ∷ reading 0 unfit 0x630A552C 2 ∷ reading 0 unfit 0xF4A830E 1 ∷ reading 0 unfit 0xA2F91C0B 1 ∷ reading 0 unfit 0x11E1A3B7 1 ∷ reading 0 unfit 0x96B14895 1 ∷ reading 0 unfit 0x902CD5B3 1 ∷ reading 0 unfit 0x7A97BDF2 1 ∷ reading 0 unfit 0x901BD704 2 ∷ reading 0 unfit 0x232C81C4 1 ∷ reading 0 unfit 0xA6F154FC 1 ∷ reading 0 unfit 0x2F1CEC6E 1 ∷ reading 0 unfit 0x48FC91EC 1 ∷ reading 0 unfit 0x1708FB06 1 ∷ reading 0 unfit 0x8172FB92 1 ∷ reading 0 unfit 0x77C53841 1 ∷ reading 0 unfit 0x50873EFC 1 ∷ reading 0 unfit 0x77B69F75 1 ∷ reading 0 unfit 0x4D5FA44B 1 ∷ reading 0 unfit 0xBCDDEAAD 1 ∷ reading 0 unfit 0x1098610D 1 ∷ reading 0 unfit 0xA6BC1C50 1 ∷ reading 0 unfit 0xB602D99A 1 ∷ reading 1 float_text 0xC8FBD9A 1 ∷ reading 1 float_text 0xCCE85BD3 1 ∷ reading 1 float_text 0xAC712198 1 ∷ reading 1 float_text 0x42DAD175 1 ∷ reading 1 float_text 0xCD55C5C8 1 ∷ reading 1 float_text 0x93C0456D 1 ∷ reading 1 float_text 0x9CF1FC94 1 ∷ reading 1 float_text 0x7EAEBCD8 1 ∷ reading 1 float_text 0x86040666 1 ∷ reading 1 float_text 0x97B55FD5 1 ∷ reading 1 float_text 0xFDD40615 1 ∷ reading 1 float_text 0xFAAE4187 1 ∷ reading 1 float_text 0x55713380 1 ∷ reading 1 float_text 0x26BFD116 1 ∷ reading 1 float_text 0xDB5B36A2 1 ∷ reading 1 float_text 0x8608F0AE 1 ∷ reading 1 float_text 0x7D0AD449 1 ∷ reading 1 float_text 0x463B0CD1 1 ∷ reading 1 float_text 0xB05DDD0B 1 ∷ reading 1 float_text 0x7861B711 1 ∷ reading 1 float_text 0xF68C76FB 1 ∷ reading 1 float_text 0x63E64B5A 1 ∷ reading 1 float_text 0x6F974753 1 ∷ reading 1 float_text 0xB08E1EA5 1 ∷ reading 1 float_text 0x74B58CDC 1 ∷ reading 1 float_text 0x45BD986F 1 ∷ reading 1 float_text 0xFF281400 1 ∷ reading 1 float_text 0xA03A86F7 1 ∷ reading 1 float_text 0x523F9768 1 ∷ reading 1 float_text 0x88D6FA7E 1 ∷ reading 0 unfit 0x199A50B2 1 ∷ reading 0 unfit 0x210E0B42 1 ∷ reading 0 unfit 0xFFFFFFFF 1 ∷ reading 0 unfit 0xDCD9038D 1 ∷ reading 0 unfit 0x1 1 ∷ reading 0 unfit 0xDE5D3446 1 ∷ reading 0 unfit 0xF9489EB8 1 ∷ reading 0 (fits 31) 0x1F 1 ∷ reading 0 (fits 4294967296) 0x12D47BE 1 ∷ reading 0 unfit 0x42034932 1 ∷ reading 0 unfit 0xF17D3043 1 ∷ reading 0 unfit 0xB347AC10 2 ∷ reading 0 unfit 0xEC7858DD 1 ∷ reading 0 unfit 0xE941827C 1 ∷ reading 0 unfit 0x6871537F 1 ∷ reading 0 unfit 0x847CE889 2 ∷ reading 0 unfit 0x71849D32 1 ∷ reading 0 unfit 0x8CB0D75B 1 ∷ reading 0 unfit 0x763ED30F 1 ∷ reading 0 unfit 0x989D7B05 1 ∷ reading 0 unfit 0x50BC2E84 1 ∷ reading 0 unfit 0x514A9844 1 ∷ reading 1 (fits 129) 0x9C044445 1 ∷ reading 0 unfit 0xF5E12DF6 1 ∷ reading 0 unfit 0xE 1 ∷ reading 0 unfit 0xCA2E9442 1 ∷ reading 0 unfit 0x4E4B4C13 1 ∷ reading 0 unfit 0xD7B0549C 1 ∷ reading 0 unfit 0x468F4997 1 ∷ reading 0 unfit 0xEF53B498 1 ∷ reading 0 unfit 0x5B0FFFA3 2 ∷ reading 0 unfit 0xF80876E1 1 ∷ reading 0 unfit 0xA07ED312 2 ∷ reading 0 unfit 0x39D2AC04 1 ∷ reading 0 unfit 0x3F52897D 1 ∷ reading 0 unfit 0xD368C069 2 ∷ reading 0 unfit 0xD5FCB1E4 1 ∷ reading 0 unfit 0x25F6BC5C 1 ∷ reading 0 unfit 0x7EA8D3E0 1 ∷ reading 0 unfit 0x84E68C4E 1 ∷ reading 0 unfit 0x3AFF4B8A 2 ∷ reading 0 unfit 0x2548CA85 0 ∷ reading 0 unfit 0xDD0B9416 1 ∷ reading 0 unfit 0xCFF7156D 1 ∷ reading 1 float_text 0xE3E57CD0 1 ∷ reading 0 unfit 0xD29B1F42 1 ∷ reading 0 unfit 0x97B72905 1 ∷ reading 0 unfit 0xB01C43E0 2 ∷ reading 0 unfit 0x7B201731 2 ∷ reading 0 unfit 0x53819E20 1 ∷ reading 0 unfit 0x8A0676E 1 ∷ reading 0 unfit 0x1F6BB8BE 1 ∷ reading 0 unfit 0xA89B009B 2 ∷ reading 0 unfit 0x375A73AF 2 ∷ reading 0 unfit 0x9B3CF64F 1 ∷ reading 0 unfit 0x9CED7D8 1 ∷ reading 0 unfit 0x636E9D66 1 ∷ reading 0 unfit 0x9EB95573 1 ∷ reading 1 float_text 0x4D6C66A0 1 ∷ reading 0 unfit 0x3717B74F 1 ∷ reading 0 unfit 0xA7A07AB1 1 ∷ reading 0 unfit 0x8179A432 1 ∷ reading 0 unfit 0x403DCE23 1 ∷ reading 0 unfit 0xB4BF6E88 1 ∷ reading 0 unfit 0x2DBFD11 1 ∷ reading 0 unfit 0xBC0C9067 2 ∷ reading 0 unfit 0x81D83390 1 ∷ reading 0 unfit 0xD3D4FC77 1 ∷ reading 0 unfit 0xD7FC76F8 1 ∷ reading 0 unfit 0x238B6C13 1 ∷ reading 0 unfit 0xD8ADF5E6 1 ∷ reading 0 unfit 0x5F8D49A 1 ∷ reading 0 unfit 0x371A6E28 1 ∷ reading 0 unfit 0xE7D729F2 1 ∷ reading 0 unfit 0x195F5395 1 ∷ reading 0 unfit 0x8A95F333 1 ∷ reading 0 unfit 0xBD9BC0F0 1 ∷ reading 0 unfit 0x9D602375 1 ∷ reading 0 unfit 0xAC47C37F 2 ∷ reading 0 unfit 0x72C29414 1 ∷ reading 0 unfit 0x7AFB2869 1 ∷ reading 0 unfit 0xA6BDB463 1 ∷ reading 0 unfit 0xAAA23EEE 1 ∷ reading 0 unfit 0xB1A0F695 2 ∷ reading 1 float_text 0xE3E57CD0 1 ∷ reading 0 unfit 0x5E09ED1A 2 ∷ reading 0 unfit 0xD8CF340 1 ∷ reading 0 unfit 0x4384B5C1 1 ∷ reading 0 unfit 0xF2CC719F 2 ∷ reading 0 unfit 0xBDE0B49F 1 ∷ reading 1 (fits 71212) 0x2D179469 1 ∷ reading 0 unfit 0x9474D484 1 ∷ reading 0 unfit 0x7FC210BB 1 ∷ reading 0 unfit 0x2AFF3F3C 1 ∷ reading 0 unfit 0x274E26BF 2 ∷ reading 0 unfit 0xD13E6684 1 ∷ reading 0 unfit 0xD4E54FC5 1 ∷ reading 0 unfit 0x989D7B05 1 ∷ reading 0 unfit 0x9D4C73C2 1 ∷ reading 0 unfit 0x6AD02994 2 ∷ reading 0 unfit 0xBA4813B4 2 ∷ reading 0 unfit 0x9F350F42 1 ∷ reading 0 unfit 0xBDB4EDA3 1 ∷ reading 0 unfit 0x11162210 1 ∷ reading 0 (fits 0) 0x0 0 ∷ reading 0 unfit 0x9666E3B2 1 ∷ reading 0 unfit 0xFFA 1 ∷ reading 0 unfit 0x98BC7D2C 1 ∷ reading 1 (fits 7) 0xD80EC868 1 ∷ reading 0 unfit 0xCB508913 1 ∷ reading 0 unfit 0x19E380B6 1 ∷ reading 0 unfit 0xECC8A681 1 ∷ reading 0 unfit 0x5E277AE2 1 ∷ reading 1 float_text 0xFBD34363 1 ∷ reading 0 unfit 0xE140ED84 1 ∷ reading 0 unfit 0xDCAAE97F 1 ∷ reading 0 unfit 0xC8CC9186 1 ∷ reading 0 unfit 0x14478D28 1 ∷ reading 0 unfit 0x1A27AF99 1 ∷ reading 1 (fits 9) 0x1302A5F5 1 ∷ reading 0 unfit 0x70B8EA08 1 ∷ reading 0 unfit 0x5C3AFD1F 1 ∷ reading 0 unfit 0x742FAE1C 1 ∷ reading 0 unfit 0x649904 1 ∷ reading 0 unfit 0x5889372D 1 ∷ reading 0 unfit 0xD90377E6 1 ∷ reading 0 unfit 0xA36846B6 1 ∷ reading 0 unfit 0x9B382DD7 1 ∷ reading 0 unfit 0xA36846B6 1 ∷ reading 0 unfit 0xFB6B43AA 2 ∷ reading 0 unfit 0xFAFB9E2C 1 ∷ reading 0 unfit 0xD370A129 1 ∷ reading 0 unfit 0x3D203B2E 1 ∷ reading 0 unfit 0x86648162 1 ∷ reading 0 unfit 0xB51184C4 2 ∷ reading 0 unfit 0x573FFB8B 1 ∷ reading 0 unfit 0xD3CA3A2E 1 ∷ reading 0 unfit 0xDBDA39D1 1 ∷ reading 0 unfit 0x365E2D5D 1 ∷ reading 0 unfit 0x8B499D65 1 ∷ reading 0 unfit 0xDDB25D4 1 ∷ reading 1 float_text 0xED3F8F66 1 ∷ reading 0 unfit 0xCE8D1EF6 1 ∷ reading 0 unfit 0x823D4056 1 ∷ reading 0 unfit 0xC8CC9186 1 ∷ reading 0 unfit 0x9EC87F01 1 ∷ reading 0 unfit 0x70F79B8F 1 ∷ reading 0 unfit 0x81578ED0 1 ∷ reading 0 unfit 0x467727FB 1 ∷ reading 0 unfit 0x27356A76 1 ∷ reading 0 unfit 0x33E6E818 1 ∷ reading 0 unfit 0x68A53997 1 ∷ reading 0 unfit 0x2CECA299 1 ∷ reading 0 unfit 0xD09BB143 1 ∷ reading 0 unfit 0xB5F47A1F 1 ∷ reading 0 unfit 0xF309F227 1 ∷ reading 0 unfit 0xF30EB9CB 2 ∷ reading 0 unfit 0x4E72CB3F 1 ∷ reading 0 unfit 0x61D11099 1 ∷ reading 0 unfit 0xACB8823B 1 ∷ reading 0 unfit 0x32D348DA 1 ∷ reading 0 unfit 0x1C15851 1 ∷ reading 0 unfit 0xCAFD6EBB 1 ∷ reading 0 unfit 0x1DABA5E8 2 ∷ reading 0 unfit 0x2EAD9013 1 ∷ reading 0 unfit 0x3F20D212 1 ∷ reading 0 unfit 0x1E57C6AE 1 ∷ reading 0 unfit 0xB1685F26 1 ∷ reading 0 unfit 0x8777D283 2 ∷ reading 0 unfit 0x8ECA87FD 1 ∷ reading 0 unfit 0xE4DC985F 1 ∷ reading 0 unfit 0x7D70A5DB 1 ∷ reading 0 unfit 0x67186452 1 ∷ reading 0 (fits 298) 0x12A 1 ∷ reading 0 unfit 0x6128AE08 1 ∷ reading 0 unfit 0xAC2DA4E5 1 ∷ reading 0 unfit 0x384B5A91 1 ∷ reading 0 unfit 0x7D544970 1 ∷ reading 0 unfit 0xFFD3EE73 1 ∷ reading 1 (fits 121) 0x45A29767 1 ∷ reading 0 unfit 0x6E966B60 2 ∷ reading 0 unfit 0x35E15592 1 ∷ reading 0 unfit 0xE241A531 1 ∷ reading 0 unfit 0x476D5C7E 1 ∷ reading 0 (fits 2578) 0xA12 1 ∷ reading 0 unfit 0x6AEB0924 1 ∷ reading 0 unfit 0x7E979968 2 ∷ reading 0 unfit 0xDA7C823 1 ∷ reading 1 (fits 12) 0x7401B0B6 1 ∷ reading 0 unfit 0xCED818AE 1 ∷ reading 0 unfit 0x47E72606 1 ∷ reading 0 unfit 0xF82D7E90 1 ∷ reading 0 unfit 0xF9D2E7B2 1 ∷ reading 0 unfit 0x65F605AD 1 ∷ reading 0 unfit 0x8C5F2292 1 ∷ reading 0 (fits 0) 0xFE25EF42 1 ∷ reading 0 unfit 0x25B2CD67 1 ∷ reading 0 unfit 0x9F445691 1 ∷ reading 0 unfit 0x670D5B65 2 ∷ reading 0 unfit 0x18A39205 1 ∷ reading 0 unfit 0xA523F945 1 ∷ reading 0 unfit 0xD6270CE9 1 ∷ []
+readings : map read texts ≡ reading 0 (Ok 0) 0x0 0 ∷ reading 0 (Ok 0) 0x0 0 ∷ reading 0 (Ok 1) 0x38185521 1 ∷ reading 0 (Ok 0) 0xEA6A35B4 1 ∷ reading 1 (Ok 7) 0xECC9D984 1 ∷ reading 0 (Err Unfit) 0xCA2E9442 1 ∷ reading 0 (Err Unfit) 0xDB819B 1 ∷ reading 0 (Err Unfit) 0x9872324C 1 ∷ reading 0 (Err Unfit) 0xD3AC69A2 1 ∷ reading 0 (Err Unfit) 0x8782BB5F 1 ∷ reading 0 (Err Unfit) 0x77DD1C14 1 ∷ reading 0 (Ok 1) 0xB2F35C25 1 ∷ reading 0 (Err Unfit) 0x74A7DE27 1 ∷ reading 0 (Err Unfit) 0x1F 1 ∷ reading 0 (Ok 42) 0x2A 1 ∷ reading 0 (Err Unfit) 0xD62B88A 1 ∷ reading 0 (Err Unfit) 0x1AD2F57E 1 ∷ reading 0 (Err Unfit) 0x8E3BFD10 1 ∷ reading 0 (Err Unfit) 0x371A6E28 1 ∷ reading 0 (Err Unfit) 0xCE43E52D 1 ∷ reading 0 (Err Unfit) 0x8034004A 1 ∷ reading 1 (Ok 0) 0x6E3C5C6B 1 ∷ reading 1 (Ok 1) 0x806B80C9 1 ∷ reading 1 (Ok 7) 0xECC9D984 1 ∷ reading 1 (Ok 18446744073709551615) 0x9855FFF 1 ∷ reading 1 (Ok 5) 0x1E2B0BE2 1 ∷ reading 1 (Ok 0) 0x2AB9A26B 1 ∷ reading 1 (Ok 7) 0xD80EC868 1 ∷ reading 1 (Ok 255) 0x9945F98D 1 ∷ reading 1 (Ok 256) 0xC33DCD7C 1 ∷ reading 1 (Ok 18446744073709551488) 0x5EC2FB0E 1 ∷ reading 1 (Ok 65536) 0xA6F9B458 1 ∷ reading 1 (Ok 2147483648) 0x14E248FA 1 ∷ reading 1 (Ok 4294967295) 0x8E0596F1 1 ∷ reading 1 (Ok 4294967296) 0xA043BB6D 1 ∷ reading 1 (Ok 9223372036854775807) 0x496A04CD 1 ∷ reading 1 (Ok 9223372036854775808) 0x926216C0 1 ∷ reading 1 (Ok 9223372036854775808) 0xBE927974 1 ∷ reading 1 (Ok 18446744073709551615) 0xCA4B5AE3 1 ∷ reading 1 (Ok 18446744073709551615) 0xB7F5BD41 1 ∷ reading 1 (Ok 16777217) 0x9CC9C11B 1 ∷ reading 1 (Ok 16777219) 0x7F9286AD 1 ∷ reading 0 (Ok 0) 0x0 1 ∷ reading 0 (Ok 31) 0x1F 1 ∷ reading 0 (Ok 31) 0x1F 1 ∷ reading 0 (Ok 4294967295) 0xFFFFFFFF 1 ∷ reading 0 (Ok 9223372036854775807) 0xFD6FD67E 1 ∷ reading 0 (Ok 9223372036854775808) 0x35CEB604 1 ∷ reading 0 (Ok 18446744073709551615) 0xEB80DFF9 1 ∷ reading 0 (Ok 18446744073709551615) 0x81731C29 1 ∷ reading 0 (Ok 1) 0x1 1 ∷ reading 0 (Ok 9223372036854775808) 0xCD81711F 1 ∷ reading 0 (Ok 255) 0xFF 1 ∷ reading 0 (Err Unfit) 0xBB14572C 1 ∷ reading 1 (Ok 0) 0xB37E5FC 1 ∷ reading 1 (Ok 12) 0x7401B0B6 1 ∷ reading 1 (Ok 99) 0x43E6C589 1 ∷ reading 1 (Ok 31) 0xAECE241E 1 ∷ reading 1 (Ok 32) 0xE6C01401 1 ∷ reading 0 (Ok 32) 0x20 1 ∷ reading 1 (Ok 18446744073709551585) 0xBFDA8FF7 1 ∷ reading 0 (Err Unfit) 0xB16CAC9F 1 ∷ reading 0 (Err Unfit) 0x989D7B05 1 ∷ reading 0 (Err Unfit) 0xC52165CE 1 ∷ reading 0 (Err Unfit) 0x5BE69362 1 ∷ reading 0 (Err Unfit) 0xBC1953C6 1 ∷ reading 0 (Err Unfit) 0x630A552C 2 ∷ reading 0 (Err Unfit) 0xF4A830E 1 ∷ reading 0 (Err Unfit) 0xA2F91C0B 1 ∷ reading 0 (Err Unfit) 0x11E1A3B7 1 ∷ reading 0 (Err Unfit) 0x96B14895 1 ∷ reading 0 (Err Unfit) 0x902CD5B3 1 ∷ reading 0 (Err Unfit) 0x7A97BDF2 1 ∷ reading 0 (Err Unfit) 0x901BD704 2 ∷ reading 0 (Err Unfit) 0x232C81C4 1 ∷ reading 0 (Err Unfit) 0xA6F154FC 1 ∷ reading 0 (Err Unfit) 0x2F1CEC6E 1 ∷ reading 0 (Err Unfit) 0x48FC91EC 1 ∷ reading 0 (Err Unfit) 0x1708FB06 1 ∷ reading 0 (Err Unfit) 0x8172FB92 1 ∷ reading 0 (Err Unfit) 0x77C53841 1 ∷ reading 0 (Err Unfit) 0x50873EFC 1 ∷ reading 0 (Err Unfit) 0x77B69F75 1 ∷ reading 0 (Err Unfit) 0x4D5FA44B 1 ∷ reading 0 (Err Unfit) 0xBCDDEAAD 1 ∷ reading 0 (Err Unfit) 0x1098610D 1 ∷ reading 0 (Err Unfit) 0xA6BC1C50 1 ∷ reading 0 (Err Unfit) 0xB602D99A 1 ∷ reading 1 (Err FloatText) 0xC8FBD9A 1 ∷ reading 1 (Err FloatText) 0xCCE85BD3 1 ∷ reading 1 (Err FloatText) 0xAC712198 1 ∷ reading 1 (Err FloatText) 0x42DAD175 1 ∷ reading 1 (Err FloatText) 0xCD55C5C8 1 ∷ reading 1 (Err FloatText) 0x93C0456D 1 ∷ reading 1 (Err FloatText) 0x9CF1FC94 1 ∷ reading 1 (Err FloatText) 0x7EAEBCD8 1 ∷ reading 1 (Err FloatText) 0x86040666 1 ∷ reading 1 (Err FloatText) 0x97B55FD5 1 ∷ reading 1 (Err FloatText) 0xFDD40615 1 ∷ reading 1 (Err FloatText) 0xFAAE4187 1 ∷ reading 1 (Err FloatText) 0x55713380 1 ∷ reading 1 (Err FloatText) 0x26BFD116 1 ∷ reading 1 (Err FloatText) 0xDB5B36A2 1 ∷ reading 1 (Err FloatText) 0x8608F0AE 1 ∷ reading 1 (Err FloatText) 0x7D0AD449 1 ∷ reading 1 (Err FloatText) 0x463B0CD1 1 ∷ reading 1 (Err FloatText) 0xB05DDD0B 1 ∷ reading 1 (Err FloatText) 0x7861B711 1 ∷ reading 1 (Err FloatText) 0xF68C76FB 1 ∷ reading 1 (Err FloatText) 0x63E64B5A 1 ∷ reading 1 (Err FloatText) 0x6F974753 1 ∷ reading 1 (Err FloatText) 0xB08E1EA5 1 ∷ reading 1 (Err FloatText) 0x74B58CDC 1 ∷ reading 1 (Err FloatText) 0x45BD986F 1 ∷ reading 1 (Err FloatText) 0xFF281400 1 ∷ reading 1 (Err FloatText) 0xA03A86F7 1 ∷ reading 1 (Err FloatText) 0x523F9768 1 ∷ reading 1 (Err FloatText) 0x88D6FA7E 1 ∷ reading 0 (Err Unfit) 0x199A50B2 1 ∷ reading 0 (Err Unfit) 0x210E0B42 1 ∷ reading 0 (Err Unfit) 0xFFFFFFFF 1 ∷ reading 0 (Err Unfit) 0xDCD9038D 1 ∷ reading 0 (Err Unfit) 0x1 1 ∷ reading 0 (Err Unfit) 0xDE5D3446 1 ∷ reading 0 (Err Unfit) 0xF9489EB8 1 ∷ reading 0 (Ok 31) 0x1F 1 ∷ reading 0 (Ok 4294967296) 0x12D47BE 1 ∷ reading 0 (Err Unfit) 0x42034932 1 ∷ reading 0 (Err Unfit) 0xF17D3043 1 ∷ reading 0 (Err Unfit) 0xB347AC10 2 ∷ reading 0 (Err Unfit) 0xEC7858DD 1 ∷ reading 0 (Err Unfit) 0xE941827C 1 ∷ reading 0 (Err Unfit) 0x6871537F 1 ∷ reading 0 (Err Unfit) 0x847CE889 2 ∷ reading 0 (Err Unfit) 0x71849D32 1 ∷ reading 0 (Err Unfit) 0x8CB0D75B 1 ∷ reading 0 (Err Unfit) 0x763ED30F 1 ∷ reading 0 (Err Unfit) 0x989D7B05 1 ∷ reading 0 (Err Unfit) 0x50BC2E84 1 ∷ reading 0 (Err Unfit) 0x514A9844 1 ∷ reading 1 (Ok 129) 0x9C044445 1 ∷ reading 0 (Err Unfit) 0xF5E12DF6 1 ∷ reading 0 (Err Unfit) 0xE 1 ∷ reading 0 (Err Unfit) 0xCA2E9442 1 ∷ reading 0 (Err Unfit) 0x4E4B4C13 1 ∷ reading 0 (Err Unfit) 0xD7B0549C 1 ∷ reading 0 (Err Unfit) 0x468F4997 1 ∷ reading 0 (Err Unfit) 0xEF53B498 1 ∷ reading 0 (Err Unfit) 0x5B0FFFA3 2 ∷ reading 0 (Err Unfit) 0xF80876E1 1 ∷ reading 0 (Err Unfit) 0xA07ED312 2 ∷ reading 0 (Err Unfit) 0x39D2AC04 1 ∷ reading 0 (Err Unfit) 0x3F52897D 1 ∷ reading 0 (Err Unfit) 0xD368C069 2 ∷ reading 0 (Err Unfit) 0xD5FCB1E4 1 ∷ reading 0 (Err Unfit) 0x25F6BC5C 1 ∷ reading 0 (Err Unfit) 0x7EA8D3E0 1 ∷ reading 0 (Err Unfit) 0x84E68C4E 1 ∷ reading 0 (Err Unfit) 0x3AFF4B8A 2 ∷ reading 0 (Err Unfit) 0x2548CA85 0 ∷ reading 0 (Err Unfit) 0xDD0B9416 1 ∷ reading 0 (Err Unfit) 0xCFF7156D 1 ∷ reading 1 (Err FloatText) 0xE3E57CD0 1 ∷ reading 0 (Err Unfit) 0xD29B1F42 1 ∷ reading 0 (Err Unfit) 0x97B72905 1 ∷ reading 0 (Err Unfit) 0xB01C43E0 2 ∷ reading 0 (Err Unfit) 0x7B201731 2 ∷ reading 0 (Err Unfit) 0x53819E20 1 ∷ reading 0 (Err Unfit) 0x8A0676E 1 ∷ reading 0 (Err Unfit) 0x1F6BB8BE 1 ∷ reading 0 (Err Unfit) 0xA89B009B 2 ∷ reading 0 (Err Unfit) 0x375A73AF 2 ∷ reading 0 (Err Unfit) 0x9B3CF64F 1 ∷ reading 0 (Err Unfit) 0x9CED7D8 1 ∷ reading 0 (Err Unfit) 0x636E9D66 1 ∷ reading 0 (Err Unfit) 0x9EB95573 1 ∷ reading 1 (Err FloatText) 0x4D6C66A0 1 ∷ reading 0 (Err Unfit) 0x3717B74F 1 ∷ reading 0 (Err Unfit) 0xA7A07AB1 1 ∷ reading 0 (Err Unfit) 0x8179A432 1 ∷ reading 0 (Err Unfit) 0x403DCE23 1 ∷ reading 0 (Err Unfit) 0xB4BF6E88 1 ∷ reading 0 (Err Unfit) 0x2DBFD11 1 ∷ reading 0 (Err Unfit) 0xBC0C9067 2 ∷ reading 0 (Err Unfit) 0x81D83390 1 ∷ reading 0 (Err Unfit) 0xD3D4FC77 1 ∷ reading 0 (Err Unfit) 0xD7FC76F8 1 ∷ reading 0 (Err Unfit) 0x238B6C13 1 ∷ reading 0 (Err Unfit) 0xD8ADF5E6 1 ∷ reading 0 (Err Unfit) 0x5F8D49A 1 ∷ reading 0 (Err Unfit) 0x371A6E28 1 ∷ reading 0 (Err Unfit) 0xE7D729F2 1 ∷ reading 0 (Err Unfit) 0x195F5395 1 ∷ reading 0 (Err Unfit) 0x8A95F333 1 ∷ reading 0 (Err Unfit) 0xBD9BC0F0 1 ∷ reading 0 (Err Unfit) 0x9D602375 1 ∷ reading 0 (Err Unfit) 0xAC47C37F 2 ∷ reading 0 (Err Unfit) 0x72C29414 1 ∷ reading 0 (Err Unfit) 0x7AFB2869 1 ∷ reading 0 (Err Unfit) 0xA6BDB463 1 ∷ reading 0 (Err Unfit) 0xAAA23EEE 1 ∷ reading 0 (Err Unfit) 0xB1A0F695 2 ∷ reading 1 (Err FloatText) 0xE3E57CD0 1 ∷ reading 0 (Err Unfit) 0x5E09ED1A 2 ∷ reading 0 (Err Unfit) 0xD8CF340 1 ∷ reading 0 (Err Unfit) 0x4384B5C1 1 ∷ reading 0 (Err Unfit) 0xF2CC719F 2 ∷ reading 0 (Err Unfit) 0xBDE0B49F 1 ∷ reading 1 (Ok 71212) 0x2D179469 1 ∷ reading 0 (Err Unfit) 0x9474D484 1 ∷ reading 0 (Err Unfit) 0x7FC210BB 1 ∷ reading 0 (Err Unfit) 0x2AFF3F3C 1 ∷ reading 0 (Err Unfit) 0x274E26BF 2 ∷ reading 0 (Err Unfit) 0xD13E6684 1 ∷ reading 0 (Err Unfit) 0xD4E54FC5 1 ∷ reading 0 (Err Unfit) 0x989D7B05 1 ∷ reading 0 (Err Unfit) 0x9D4C73C2 1 ∷ reading 0 (Err Unfit) 0x6AD02994 2 ∷ reading 0 (Err Unfit) 0xBA4813B4 2 ∷ reading 0 (Err Unfit) 0x9F350F42 1 ∷ reading 0 (Err Unfit) 0xBDB4EDA3 1 ∷ reading 0 (Err Unfit) 0x11162210 1 ∷ reading 0 (Ok 0) 0x0 0 ∷ reading 0 (Err Unfit) 0x9666E3B2 1 ∷ reading 0 (Err Unfit) 0xFFA 1 ∷ reading 0 (Err Unfit) 0x98BC7D2C 1 ∷ reading 1 (Ok 7) 0xD80EC868 1 ∷ reading 0 (Err Unfit) 0xCB508913 1 ∷ reading 0 (Err Unfit) 0x19E380B6 1 ∷ reading 0 (Err Unfit) 0xECC8A681 1 ∷ reading 0 (Err Unfit) 0x5E277AE2 1 ∷ reading 1 (Err FloatText) 0xFBD34363 1 ∷ reading 0 (Err Unfit) 0xE140ED84 1 ∷ reading 0 (Err Unfit) 0xDCAAE97F 1 ∷ reading 0 (Err Unfit) 0xC8CC9186 1 ∷ reading 0 (Err Unfit) 0x14478D28 1 ∷ reading 0 (Err Unfit) 0x1A27AF99 1 ∷ reading 1 (Ok 9) 0x1302A5F5 1 ∷ reading 0 (Err Unfit) 0x70B8EA08 1 ∷ reading 0 (Err Unfit) 0x5C3AFD1F 1 ∷ reading 0 (Err Unfit) 0x742FAE1C 1 ∷ reading 0 (Err Unfit) 0x649904 1 ∷ reading 0 (Err Unfit) 0x5889372D 1 ∷ reading 0 (Err Unfit) 0xD90377E6 1 ∷ reading 0 (Err Unfit) 0xA36846B6 1 ∷ reading 0 (Err Unfit) 0x9B382DD7 1 ∷ reading 0 (Err Unfit) 0xA36846B6 1 ∷ reading 0 (Err Unfit) 0xFB6B43AA 2 ∷ reading 0 (Err Unfit) 0xFAFB9E2C 1 ∷ reading 0 (Err Unfit) 0xD370A129 1 ∷ reading 0 (Err Unfit) 0x3D203B2E 1 ∷ reading 0 (Err Unfit) 0x86648162 1 ∷ reading 0 (Err Unfit) 0xB51184C4 2 ∷ reading 0 (Err Unfit) 0x573FFB8B 1 ∷ reading 0 (Err Unfit) 0xD3CA3A2E 1 ∷ reading 0 (Err Unfit) 0xDBDA39D1 1 ∷ reading 0 (Err Unfit) 0x365E2D5D 1 ∷ reading 0 (Err Unfit) 0x8B499D65 1 ∷ reading 0 (Err Unfit) 0xDDB25D4 1 ∷ reading 1 (Err FloatText) 0xED3F8F66 1 ∷ reading 0 (Err Unfit) 0xCE8D1EF6 1 ∷ reading 0 (Err Unfit) 0x823D4056 1 ∷ reading 0 (Err Unfit) 0xC8CC9186 1 ∷ reading 0 (Err Unfit) 0x9EC87F01 1 ∷ reading 0 (Err Unfit) 0x70F79B8F 1 ∷ reading 0 (Err Unfit) 0x81578ED0 1 ∷ reading 0 (Err Unfit) 0x467727FB 1 ∷ reading 0 (Err Unfit) 0x27356A76 1 ∷ reading 0 (Err Unfit) 0x33E6E818 1 ∷ reading 0 (Err Unfit) 0x68A53997 1 ∷ reading 0 (Err Unfit) 0x2CECA299 1 ∷ reading 0 (Err Unfit) 0xD09BB143 1 ∷ reading 0 (Err Unfit) 0xB5F47A1F 1 ∷ reading 0 (Err Unfit) 0xF309F227 1 ∷ reading 0 (Err Unfit) 0xF30EB9CB 2 ∷ reading 0 (Err Unfit) 0x4E72CB3F 1 ∷ reading 0 (Err Unfit) 0x61D11099 1 ∷ reading 0 (Err Unfit) 0xACB8823B 1 ∷ reading 0 (Err Unfit) 0x32D348DA 1 ∷ reading 0 (Err Unfit) 0x1C15851 1 ∷ reading 0 (Err Unfit) 0xCAFD6EBB 1 ∷ reading 0 (Err Unfit) 0x1DABA5E8 2 ∷ reading 0 (Err Unfit) 0x2EAD9013 1 ∷ reading 0 (Err Unfit) 0x3F20D212 1 ∷ reading 0 (Err Unfit) 0x1E57C6AE 1 ∷ reading 0 (Err Unfit) 0xB1685F26 1 ∷ reading 0 (Err Unfit) 0x8777D283 2 ∷ reading 0 (Err Unfit) 0x8ECA87FD 1 ∷ reading 0 (Err Unfit) 0xE4DC985F 1 ∷ reading 0 (Err Unfit) 0x7D70A5DB 1 ∷ reading 0 (Err Unfit) 0x67186452 1 ∷ reading 0 (Ok 298) 0x12A 1 ∷ reading 0 (Err Unfit) 0x6128AE08 1 ∷ reading 0 (Err Unfit) 0xAC2DA4E5 1 ∷ reading 0 (Err Unfit) 0x384B5A91 1 ∷ reading 0 (Err Unfit) 0x7D544970 1 ∷ reading 0 (Err Unfit) 0xFFD3EE73 1 ∷ reading 1 (Ok 121) 0x45A29767 1 ∷ reading 0 (Err Unfit) 0x6E966B60 2 ∷ reading 0 (Err Unfit) 0x35E15592 1 ∷ reading 0 (Err Unfit) 0xE241A531 1 ∷ reading 0 (Err Unfit) 0x476D5C7E 1 ∷ reading 0 (Ok 2578) 0xA12 1 ∷ reading 0 (Err Unfit) 0x6AEB0924 1 ∷ reading 0 (Err Unfit) 0x7E979968 2 ∷ reading 0 (Err Unfit) 0xDA7C823 1 ∷ reading 1 (Ok 12) 0x7401B0B6 1 ∷ reading 0 (Err Unfit) 0xCED818AE 1 ∷ reading 0 (Err Unfit) 0x47E72606 1 ∷ reading 0 (Err Unfit) 0xF82D7E90 1 ∷ reading 0 (Err Unfit) 0xF9D2E7B2 1 ∷ reading 0 (Err Unfit) 0x65F605AD 1 ∷ reading 0 (Err Unfit) 0x8C5F2292 1 ∷ reading 0 (Ok 0) 0xFE25EF42 1 ∷ reading 0 (Err Unfit) 0x25B2CD67 1 ∷ reading 0 (Err Unfit) 0x9F445691 1 ∷ reading 0 (Err Unfit) 0x670D5B65 2 ∷ reading 0 (Err Unfit) 0x18A39205 1 ∷ reading 0 (Err Unfit) 0xA523F945 1 ∷ reading 0 (Err Unfit) 0xD6270CE9 1 ∷ []
 unfolding Eval.evaluated texts read
 readings = refl
 

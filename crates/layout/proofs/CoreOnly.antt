@@ -1,13 +1,13 @@
 -- A property of the core alone is kept by all actions, if the three that change the core keep it.
 -- Assumes nothing.
+use Rattle.std.specs.Prelude.{Option, Some, None, is_some}
 use Prim.Native.Nat.{ℕ, suc, ◌+◌, ◌≤◌}
 use mathlib.Core.Path.{◌≡◌, refl}
 use mathlib.Core.Bool.{Bool, true, false, cond, ◌&&◌, false≢true}
-use mathlib.Core.Option.{Option, none, some}
 use lib.Dec.{leb}
 use lib.ListN.{length}
 use Rattle.numbers.specs.Words.{Bytes}
-use Rattle.numbers.specs.Result.{given, is_some}
+use Rattle.numbers.specs.Result.{given}
 use Rattle.schema.specs.Defs.{StructDef}
 use Rattle.layout.specs.State
 use Rattle.layout.specs.State.{Core, State, Env, Out, done, stop, Remark, spot, pointer_at, file}
@@ -20,7 +20,7 @@ on_core N Q = record { holds = λ s. Q s.core; refused = λ n es. Unit {0}; file
 
 -- items are filed under names that N allows
 pub record Allows (E : Env) (N : ℕ → Type 0) : Type 0 where
-  pub found : (n : ℕ) (d : StructDef) → E.defs.struct n ≡ some d → N n
+  pub found : (n : ℕ) (d : StructDef) → E.defs.struct n ≡ Some d → N n
   pub named : (d : StructDef) → Defined E d → N d.name
   pub small : (n : ℕ) → n ≤ 200 → N n
 
@@ -32,8 +32,8 @@ pub allows_any : (E : Env) → Allows E Any
 allows_any E = record { found = λ n d e. tt; named = λ d k. tt; small = λ n h. tt }
 
 abbrev pub OkC : {A : Type 0} → (Core → Type 0) → Option (A × Core) → Type 0
-OkC Q none = Unit {0}
-OkC Q (some r) = Q r.1
+OkC Q None = Unit {0}
+OkC Q (Some r) = Q r.1
 
 given_ok : {A : Type 0} (Q : Core → Type 0) (b : Bool) (r : A × Core) → (b ≡ true → Q r.1) → OkC Q (given b r)
 given_ok Q true r q = q refl
@@ -46,8 +46,8 @@ both false b e = absurd (false≢true e)
 module _ (N : ℕ → Type 0) (Q : Core → Type 0) where
   settle_ok : {A : Type 0} (s : State) (e : ℕ) (o : Option (A × Core)) → OkC Q o → Okay (on_core N Q) (State.settle s e o)
   unfolding State.settle
-  settle_ok s e none q = tt
-  settle_ok s e (some r) q = q
+  settle_ok s e None q = tt
+  settle_ok s e (Some r) q = q
 
   cond_ok : (b : Bool) (o p : Out (Unit {0})) → Okay (on_core N Q) o → Okay (on_core N Q) p → Okay (on_core N Q) (cond b o p)
   cond_ok true o p ho hp = ho

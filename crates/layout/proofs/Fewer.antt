@@ -1,6 +1,7 @@
 -- The run with fewer definitions follows the run with all, where the definitions that it lacks are none that the first run used: the two runs, what
 -- relates them, and the steps that change the state. (docs/REBUILD.md has the argument.)
 -- Assumes nothing.
+use Rattle.std.specs.Prelude.{Option, Some, None}
 use Prim.Native.Nat.{ℕ, ◌+◌, ◌≤◌}
 use native.Mathlib.Omega.{arith}
 use native.Mathlib.Nat.{add-zero}
@@ -8,7 +9,6 @@ use mathlib.Core.Path.{◌≡◌, refl, ◌∙◌, subst}
 use mathlib.Core.Logic.{◌⊎◌, inl, inr}
 use mathlib.Core.Bool.{Bool, true, false, cond, ◌||◌}
 use mathlib.Core.List.{List, []}
-use mathlib.Core.Option.{Option, none, some}
 use lib.Dec.{eqb, leb}
 use lib.ListN.{take-append-drop}
 use borrow.Author.Tests.{leb-true, le-leb, eq-eqb}
@@ -28,20 +28,20 @@ use Rattle.layout.proofs.Follow.{Follows, back, Backs, Sim, Tells, s_bind, s_if_
 
 -- where the smaller of two look-ups lacks a name, the name is not in U
 abbrev pub Agree : {A : Type 0} → (ℕ → Option A) → (ℕ → Option A) → List ℕ → Type 0
-Agree f f' U = (n : ℕ) → (f' n ≡ f n) ⊎ ((f' n ≡ none) × (contains n U ≡ false))
+Agree f f' U = (n : ℕ) → (f' n ≡ f n) ⊎ ((f' n ≡ None) × (contains n U ≡ false))
 
 -- the two answers are the same, or only the first is one
 pub data Both {A : Type 0} (U : List ℕ) (n : ℕ) : Option A → Option A → Type 0 where
   alike_both : (o : Option A) → Both U n o o
-  first_only : (a : A) → contains n U ≡ false → Both U n (some a) none
+  first_only : (a : A) → contains n U ≡ false → Both U n (Some a) None
 
 pub both : {A : Type 0} (U : List ℕ) (f f' : ℕ → Option A) → Agree f f' U → (n : ℕ) → Both U n (f n) (f' n)
 both {A = A} U f f' g n = go (f n) (f' n) (g n)
   where
-    go : (o p : Option A) → (p ≡ o) ⊎ ((p ≡ none) × (contains n U ≡ false)) → Both U n o p
+    go : (o p : Option A) → (p ≡ o) ⊎ ((p ≡ None) × (contains n U ≡ false)) → Both U n o p
     go o p (inl e) = rw e (alike_both o)
-    go none p (inr e) = rw e.0 (alike_both none)
-    go (some a) p (inr e) = rw e.0 (first_only a e.1)
+    go None p (inr e) = rw e.0 (alike_both None)
+    go (Some a) p (inr e) = rw e.0 (first_only a e.1)
 
 pub over_nil : (buf : Bytes) (off : ℕ) → over buf off [] ≡ buf
 unfolding over
@@ -106,16 +106,16 @@ module _ (R : Fewer) where
   D = Inside U
 
   pub s_lookup : {A : Type 0} (x : ℕ) (z z' : M A) (f f' : StructDef → M A) → Sim Rel D z z'
-      → ((d : StructDef) → E.defs.struct x ≡ some d → L'.struct x ≡ some d → Sim Rel D (f d) (f' d))
-      → ((d : StructDef) → E.defs.struct x ≡ some d → contains x U.structs ≡ false → Sim Rel D (f d) z')
+      → ((d : StructDef) → E.defs.struct x ≡ Some d → L'.struct x ≡ Some d → Sim Rel D (f d) (f' d))
+      → ((d : StructDef) → E.defs.struct x ≡ Some d → contains x U.structs ≡ false → Sim Rel D (f d) z')
       → Sim Rel D (opt_m (E.defs.struct x) z f) (opt_m (L'.struct x) z' f')
   unfolding opt_m
   s_lookup {A = A} x z z' f f' hz hf ha =
       go (E.defs.struct x) (L'.struct x) (both U.structs E.defs.struct L'.struct R.structs_agree x) refl refl
     where
       go : (o p : Option StructDef) → Both U.structs x o p → E.defs.struct x ≡ o → L'.struct x ≡ p → Sim Rel D (opt_m o z f) (opt_m p z' f')
-      go o p (alike_both none) e e' = hz
-      go o p (alike_both (some d)) e e' = hf d e e'
+      go o p (alike_both None) e e' = hz
+      go o p (alike_both (Some d)) e e' = hf d e e'
       go o p (first_only d a) e e' = ha d e a
 
   -- uses only grow
@@ -201,8 +201,8 @@ module _ (R : Fewer) where
       record { backs = b; follows = λ s t h. subst (λ c. Follows Rel D (settle s e (f s.core)) (settle t e (f c))) h.same (go s t h (f s.core)) }
     where
       go : (s t : State) → Rel s t → (o : Option (A × Core)) → Follows Rel D (settle s e o) (settle t e o)
-      go s t h none = tt
-      go s t h (some r) = λ u. (refl, record { same = refl; less = h.less })
+      go s t h None = tt
+      go s t h (Some r) = λ u. (refl, record { same = refl; less = h.less })
 
   -- the log of uses is not related
   pub s_log_start : (n : ℕ) → Sim Rel D (log_start n) (log_start n)

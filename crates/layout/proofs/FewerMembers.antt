@@ -1,15 +1,15 @@
 -- .. in members that lead to no structure, and in runs of elements that are none.
 -- Assumes nothing.
+use Rattle.std.specs.Prelude.{Option, Some, None, is_some, unwrap_or, option_map, Ok, Err}
 use Prim.Native.Nat.{ℕ, ◌+◌, ◌*◌}
 use mathlib.Core.Path.{◌≡◌, refl, sym, ◌∙◌}
 use mathlib.Core.Bool.{Bool, true, false}
 use mathlib.Core.List.{List, [], ◌∷◌}
-use mathlib.Core.Option.{Option, none, some}
 use lib.ListN.{length}
 use Rattle.numbers.specs.Words.{Bytes, over, bytes_of}
-use Rattle.numbers.specs.Result.{is_some, map_option, or_value}
 use Rattle.value.specs.Rows.{Value}
-use Rattle.coerce.specs.Numbers.{Fit, fits, unfit, float_text}
+use Rattle.coerce.specs.Numbers.{Fit}
+use Rattle.coerce.specs.declared.misfit.Misfit.TheVariants.{Unfit, FloatText}
 use Rattle.names.specs.Names.{Entries}
 use Rattle.names.proofs.Mono.{Below}
 use Rattle.schema.specs.Defs.{StructDef, EnumDef, Member, Lookup}
@@ -78,11 +78,11 @@ module _ (R : Fewer) where
   pub s_uncoerced : (u u' : Fit ℕ) → Below u u' → (h : ℕ) → contains h U.enums ≡ false → (d : StructDef) (e : Member) (v : Value) (buf : Bytes) (k : ℕ → Bytes) (g : ℕ → M Bytes)
       → Sim Rel D (fit_m u (wrong d e v buf) λ x. bind (if_m true (use_enum h) (ret tt)) λ _. ret (k x)) (fit_m u' (wrong d e v buf) g)
   unfolding fit_m if_m
-  s_uncoerced (fits x) u' l h a d e v buf k g = s_lost R _ _ (λ s₀. search held) (t_left D ⊥ _ _ (t_use_enum R h a) (λ z s₀. search held))
-  s_uncoerced unfit (fits y) l h a d e v buf k g = absurd l
-  s_uncoerced unfit unfit l h a d e v buf k g = s_wrong R d e v buf
-  s_uncoerced unfit float_text l h a d e v buf k g = absurd l
-  s_uncoerced float_text u' l h a d e v buf k g = s_fail Rel D Bytes 11 _
+  s_uncoerced (Ok x) u' l h a d e v buf k g = s_lost R _ _ (λ s₀. search held) (t_left D ⊥ _ _ (t_use_enum R h a) (λ z s₀. search held))
+  s_uncoerced (Err Unfit) (Ok y) l h a d e v buf k g = absurd l
+  s_uncoerced (Err Unfit) (Err Unfit) l h a d e v buf k g = s_wrong R d e v buf
+  s_uncoerced (Err Unfit) (Err FloatText) l h a d e v buf k g = absurd l
+  s_uncoerced (Err FloatText) u' l h a d e v buf k g = s_fail Rel D Bytes 11 _
 
   pub s_named_member : (f : Entries → Fit ℕ) → ((es : Entries) → Below (f es) (f [])) → (h : ℕ) (d : StructDef) (e : Member) (v : Value) (buf : Bytes)
       → Sim Rel D (named_member E f h d e v buf) (named_member E' f h d e v buf)
@@ -93,10 +93,10 @@ module _ (R : Fewer) where
       k x = over buf e.offset (bytes_of (enum_size e.subtype) x)
 
       part : Option EnumDef → M Bytes
-      part o = fit_m (f (or_value (map_option (λ x. x.entries) o) [])) (wrong d e v buf) λ x. bind (if_m (is_some o) (use_enum h) (ret tt)) λ _. ret (k x)
+      part o = fit_m (f (unwrap_or (option_map (λ x. x.entries) o) [])) (wrong d e v buf) λ x. bind (if_m (is_some o) (use_enum h) (ret tt)) λ _. ret (k x)
 
       go : (o p : Option EnumDef) → Both U.enums h o p → Sim Rel D (part o) (part p)
-      go o p (alike_both q) = s_coerced (f (or_value (map_option (λ x. x.entries) q) [])) (is_some q) h d e v buf k
+      go o p (alike_both q) = s_coerced (f (unwrap_or (option_map (λ x. x.entries) q) [])) (is_some q) h d e v buf k
       go o p (first_only q a) = s_uncoerced (f q.entries) (f []) (below q.entries) h a d e v buf k _
 
   pub b_enum_element : (s₀ : State) (n r : ℕ) → Keeps (back D s₀) (enum_element E n r)
@@ -176,16 +176,16 @@ module _ (R : Fewer) where
   -- an empty run gives no bytes, and neither does one without a definition: the first run pays, the follower remarks
 
   run_empty : {X B : Type 0} (stride block : ℕ) (f : X → M (Option Bytes)) (k : Option Run → M B) (s : State)
-      → bind (pay E (16 + stride * length {A = X} [])) (λ _. k (some (record { bytes = []; block = block }))) s ≡ bind (run E stride block f []) k s
+      → bind (pay E (16 + stride * length {A = X} [])) (λ _. k (Some (record { bytes = []; block = block }))) s ≡ bind (run E stride block f []) k s
   unfolding bind run elements ret after
   run_empty {X = X} {B = B} stride block f k s = go (pay E (16 + stride * length {A = X} []) s)
     where
-      go : (o : Out (Unit {0})) → after o (λ _. k (some (record { bytes = []; block = block }))) ≡ after (after o (λ _ t. done (some (record { bytes = []; block = block })) t)) k
+      go : (o : Out (Unit {0})) → after o (λ _. k (Some (record { bytes = []; block = block }))) ≡ after (after o (λ _ t. done (Some (record { bytes = []; block = block })) t)) k
       go (done a t) = refl
       go (stop n es) = refl
 
   stops_none : {B : Type 0} (d : StructDef) (e : Member) (kind detail : ℕ) (k : Option Run → M B) (s : State)
-      → bind (says d e kind detail) (λ _. k none) s ≡ bind (stops d e kind detail) k s
+      → bind (says d e kind detail) (λ _. k None) s ≡ bind (stops d e kind detail) k s
   unfolding bind stops ret says remark after
   stops_none d e kind detail k s = refl
 

@@ -1,14 +1,13 @@
 -- .. in structures: by pointer, inline, in runs and in maps; so in the whole run (`s_root`).
 -- Assumes nothing.
+use Rattle.std.specs.Prelude.{Option, Some, None, is_some}
 use Prim.Native.Nat.{ℕ, zero, suc, ◌+◌, ◌-◌}
 use mathlib.Core.Path.{◌≡◌, refl, ◌∙◌, ap}
 use mathlib.Core.Bool.{Bool, true, false, cond}
 use mathlib.Core.List.{List, [], ◌∷◌}
-use mathlib.Core.Option.{Option, none, some}
 use lib.Dec.{eqb}
 use lib.ListN.{length}
 use Rattle.numbers.specs.Words.{Bytes}
-use Rattle.numbers.specs.Result.{is_some}
 use Rattle.value.specs.Rows.{Value, Row, Fields, fields_of}
 use Rattle.names.proofs.Mono.{enum_below, flags_below}
 use Rattle.schema.specs.Defs.{StructDef, Member, Lookup}
@@ -40,10 +39,10 @@ module _ (R : Fewer) where
   D = Inside U
 
   module _ (w w' : Writer)
-      (hw : (n : ℕ) (i : StructDef) (fs : Fields) → E.defs.struct n ≡ some i → L'.struct n ≡ some i → Sim Rel D (w i fs) (w' i fs))
-      (hb : (n : ℕ) (i : StructDef) (fs : Fields) → E.defs.struct n ≡ some i → Backs D (w i fs))
-      (ht : (n : ℕ) (i : StructDef) (fs : Fields) → E.defs.struct n ≡ some i → contains n U.structs ≡ false → Tells D ⊥ (w i fs)) where
-    b_w : (s₀ : State) (n : ℕ) (i : StructDef) (fs : Fields) → E.defs.struct n ≡ some i → Keeps (back D s₀) (w i fs)
+      (hw : (n : ℕ) (i : StructDef) (fs : Fields) → E.defs.struct n ≡ Some i → L'.struct n ≡ Some i → Sim Rel D (w i fs) (w' i fs))
+      (hb : (n : ℕ) (i : StructDef) (fs : Fields) → E.defs.struct n ≡ Some i → Backs D (w i fs))
+      (ht : (n : ℕ) (i : StructDef) (fs : Fields) → E.defs.struct n ≡ Some i → contains n U.structs ≡ false → Tells D ⊥ (w i fs)) where
+    b_w : (s₀ : State) (n : ℕ) (i : StructDef) (fs : Fields) → E.defs.struct n ≡ Some i → Keeps (back D s₀) (w i fs)
     b_w s₀ n i fs q = hb n i fs q s₀
 
     ruleset held-w = (held, b_w)
@@ -51,8 +50,8 @@ module _ (R : Fewer) where
     -- structures by pointer
 
     s_point : (x y y' : ℕ) (d : StructDef) (e : Member) (v : Row)
-        → Sim Rel D (opt_m (E.defs.struct x) (bind (says d e 4 y) λ _. ret none) λ i. bind (w i (fields_of E.sheet v)) λ bs. bind (add_item i.name bs) λ p. ret (some p))
-        (opt_m (L'.struct x) (bind (says d e 4 y') λ _. ret none) λ i. bind (w' i (fields_of E.sheet v)) λ bs. bind (add_item i.name bs) λ p. ret (some p))
+        → Sim Rel D (opt_m (E.defs.struct x) (bind (says d e 4 y) λ _. ret None) λ i. bind (w i (fields_of E.sheet v)) λ bs. bind (add_item i.name bs) λ p. ret (Some p))
+        (opt_m (L'.struct x) (bind (says d e 4 y') λ _. ret None) λ i. bind (w' i (fields_of E.sheet v)) λ bs. bind (add_item i.name bs) λ p. ret (Some p))
     s_point x y y' d e v =
         s_lookup R x _ _ _ _ (search more) (λ i q q'. search (more, hw))
         (λ i q a. s_lost R _ _ (λ s₀. search held-w) (t_left D ⊥ _ _ (ht x i (fields_of E.sheet v) q a) (λ bs s₀. search held)))
@@ -63,15 +62,15 @@ module _ (R : Fewer) where
     s_pointed d e ref v = go (E.defs.struct v.a) (L'.struct v.a) (both U.structs E.defs.struct L'.struct R.structs_agree v.a) refl
       where
         to : ℕ → Option StructDef → M (Option ℕ)
-        to x o = opt_m o (bind (says d e 4 x) λ _. ret none) λ i. bind (w i (fields_of E.sheet v)) λ bs. bind (add_item i.name bs) λ p. ret (some p)
+        to x o = opt_m o (bind (says d e 4 x) λ _. ret None) λ i. bind (w i (fields_of E.sheet v)) λ bs. bind (add_item i.name bs) λ p. ret (Some p)
 
         to' : ℕ → Option StructDef → M (Option ℕ)
-        to' x o = opt_m o (bind (says d e 4 x) λ _. ret none) λ i. bind (w' i (fields_of E.sheet v)) λ bs. bind (add_item i.name bs) λ p. ret (some p)
+        to' x o = opt_m o (bind (says d e 4 x) λ _. ret None) λ i. bind (w' i (fields_of E.sheet v)) λ bs. bind (add_item i.name bs) λ p. ret (Some p)
 
         go : (o p : Option StructDef) → Both U.structs v.a o p → E.defs.struct v.a ≡ o
             → Sim Rel D (to (cond (is_some o) v.a ref) (E.defs.struct (cond (is_some o) v.a ref))) (to' (cond (is_some p) v.a ref) (L'.struct (cond (is_some p) v.a ref)))
-        go o p (alike_both none) q = s_point ref ref ref d e v
-        go o p (alike_both (some i)) q = s_point v.a v.a v.a d e v
+        go o p (alike_both None) q = s_point ref ref ref d e v
+        go o p (alike_both (Some i)) q = s_point v.a v.a v.a d e v
         go o p (first_only i a) q =
             rw q (s_lost R _ _ (λ s₀. search held-w) (t_left D ⊥ _ _ (ht v.a i (fields_of E.sheet v) q a) (λ bs s₀. search held)))
 
@@ -81,15 +80,15 @@ module _ (R : Fewer) where
 
     -- runs of structures
 
-    s_struct_element : (d : StructDef) (e : Member) (n : ℕ) (i : StructDef) (r : ℕ) → E.defs.struct n ≡ some i → L'.struct n ≡ some i
+    s_struct_element : (d : StructDef) (e : Member) (n : ℕ) (i : StructDef) (r : ℕ) → E.defs.struct n ≡ Some i → L'.struct n ≡ Some i
         → Sim Rel D (struct_element E w d e i r) (struct_element E' w' d e i r)
     unfolding struct_element
     s_struct_element d e n i r q q' = search (more, hw n i)
 
-    b_struct_element : (s₀ : State) (d : StructDef) (e : Member) (n : ℕ) (i : StructDef) (r : ℕ) → E.defs.struct n ≡ some i → Keeps (back D s₀) (struct_element E w d e i r)
+    b_struct_element : (s₀ : State) (d : StructDef) (e : Member) (n : ℕ) (i : StructDef) (r : ℕ) → E.defs.struct n ≡ Some i → Keeps (back D s₀) (struct_element E w d e i r)
     b_struct_element s₀ = k_struct_element E (back D s₀) (prims R s₀) w (λ n i fs q. hb n i fs q s₀)
 
-    t_struct_element : (d : StructDef) (e : Member) (n : ℕ) (i : StructDef) (r : ℕ) → E.defs.struct n ≡ some i → contains n U.structs ≡ false
+    t_struct_element : (d : StructDef) (e : Member) (n : ℕ) (i : StructDef) (r : ℕ) → E.defs.struct n ≡ Some i → contains n U.structs ≡ false
         → Tells D ⊥ (struct_element E w d e i r)
     unfolding struct_element
     t_struct_element d e n i r q a = t_right D ⊥ _ _ (λ z. t_left D ⊥ _ _ (ht n i _ q a) (λ bs s₀. search held))
@@ -118,8 +117,8 @@ module _ (R : Fewer) where
             other : (o p : Option StructDef) → Both U.structs x.reference o p → E.defs.struct x.reference ≡ o → L'.struct x.reference ≡ p → Sim Rel D
                 (bind (opt_m o (stops d e 8 x.reference) λ i. run E i.size i.name (struct_element E w d e i) []) (embed R d e buf))
                 (bind (opt_m p (stops d e 8 x.reference) λ i. run E' i.size i.name (struct_element E' w' d e i) []) (embed R d e buf))
-            other o p (alike_both none) q q' = s_bind Rel D _ _ _ _ (s_stops R d d e e 8 8 x.reference x.reference) (s_embed R d e buf)
-            other o p (alike_both (some i)) q q' =
+            other o p (alike_both None) q q' = s_bind Rel D _ _ _ _ (s_stops R d d e e 8 8 x.reference x.reference) (s_embed R d e buf)
+            other o p (alike_both (Some i)) q q' =
                 s_bind Rel D _ _ _ _ (s_run R i.size i.name _ _ [] (λ z. s_struct_element d e x.reference i z q q')) (s_embed R d e buf)
             other o p (first_only i a) q q' = s_empty R i.size i.name (struct_element E w d e i) d e 8 x.reference buf
 
@@ -192,14 +191,14 @@ module _ (R : Fewer) where
     unfolding array_member
     s_array_member d e v buf = search (more, s_array_of)
 
-    s_pair_element : (n : ℕ) (i : StructDef) (p : ℕ × ℕ) → E.defs.struct n ≡ some i → L'.struct n ≡ some i → Sim Rel D (pair_element E w i p) (pair_element E' w' i p)
+    s_pair_element : (n : ℕ) (i : StructDef) (p : ℕ × ℕ) → E.defs.struct n ≡ Some i → L'.struct n ≡ Some i → Sim Rel D (pair_element E w i p) (pair_element E' w' i p)
     unfolding pair_element
     s_pair_element n i p q q' = search (more, hw n i)
 
-    b_pair_element : (s₀ : State) (n : ℕ) (i : StructDef) (p : ℕ × ℕ) → E.defs.struct n ≡ some i → Keeps (back D s₀) (pair_element E w i p)
+    b_pair_element : (s₀ : State) (n : ℕ) (i : StructDef) (p : ℕ × ℕ) → E.defs.struct n ≡ Some i → Keeps (back D s₀) (pair_element E w i p)
     b_pair_element s₀ = k_pair_element E (back D s₀) (prims R s₀) w (λ n i fs q. hb n i fs q s₀)
 
-    t_pair_element : (n : ℕ) (i : StructDef) (p : ℕ × ℕ) → E.defs.struct n ≡ some i → contains n U.structs ≡ false → Tells D ⊥ (pair_element E w i p)
+    t_pair_element : (n : ℕ) (i : StructDef) (p : ℕ × ℕ) → E.defs.struct n ≡ Some i → contains n U.structs ≡ false → Tells D ⊥ (pair_element E w i p)
     unfolding pair_element
     t_pair_element n i p q a = t_left D ⊥ _ _ (ht n i _ q a) (λ bs s₀. search held)
 
@@ -212,7 +211,7 @@ module _ (R : Fewer) where
         (λ i q q'. s_laid_run R _ _ _ _ buf (s_run R i.size h _ _ (p ∷ ps) (λ z. s_pair_element h i z q q')))
         (λ i q a. s_lost R _ _ (λ s₀. b_laid_run R s₀ i.size h (pair_element E w i) (p ∷ ps) _ _ buf (λ z. b_pair_element s₀ h i z q)) (t_laid i q a))
       where
-        t_laid : (i : StructDef) → E.defs.struct h ≡ some i → contains h U.structs ≡ false
+        t_laid : (i : StructDef) → E.defs.struct h ≡ Some i → contains h U.structs ≡ false
             → Tells D ⊥ (laid_run (run E i.size h (pair_element E w i) (p ∷ ps)) (length (p ∷ ps)) (e.offset + 8) buf)
         t_laid i q a =
             t_left D ⊥ _ _ (t_run R i.size h (pair_element E w i) p ps (λ z s₀. b_pair_element s₀ h i z q) (t_pair_element h i p q a)) (λ o s₀. search held)
@@ -241,8 +240,8 @@ module _ (R : Fewer) where
     unfolding started
     s_started d fs = search (more, s_members)
 
-  t_started : (w : Writer) → ((n : ℕ) (i : StructDef) (fs : Fields) → E.defs.struct n ≡ some i → Backs D (w i fs))
-      → (n : ℕ) (d : StructDef) (fs : Fields) → E.defs.struct n ≡ some d → contains n U.structs ≡ false → Tells D ⊥ (started E w d fs)
+  t_started : (w : Writer) → ((n : ℕ) (i : StructDef) (fs : Fields) → E.defs.struct n ≡ Some i → Backs D (w i fs))
+      → (n : ℕ) (d : StructDef) (fs : Fields) → E.defs.struct n ≡ Some d → contains n U.structs ≡ false → Tells D ⊥ (started E w d fs)
   unfolding started
   t_started w hb n d fs q a =
       t_right D ⊥ _ _ λ z.
@@ -251,10 +250,10 @@ module _ (R : Fewer) where
 
   -- by depth
 
-  b_write : (fuel left n : ℕ) (d : StructDef) (fs : Fields) → E.defs.struct n ≡ some d → Backs D (write E fuel left d fs)
+  b_write : (fuel left n : ℕ) (d : StructDef) (fs : Fields) → E.defs.struct n ≡ Some d → Backs D (write E fuel left d fs)
   b_write fuel left n d fs q s₀ = k_write E (back D s₀) (prims R s₀) fuel left d fs ((prims R s₀).found n d q).0
 
-  t_write : (fuel left n : ℕ) (d : StructDef) (fs : Fields) → E.defs.struct n ≡ some d → contains n U.structs ≡ false → Tells D ⊥ (write E fuel left d fs)
+  t_write : (fuel left n : ℕ) (d : StructDef) (fs : Fields) → E.defs.struct n ≡ Some d → contains n U.structs ≡ false → Tells D ⊥ (write E fuel left d fs)
   unfolding write body
   t_write zero left n d fs q a = t_fail D Bytes ⊥ 8
   t_write (suc fuel) left n d fs q a =
@@ -266,7 +265,7 @@ module _ (R : Fewer) where
   unfolding body
   s_body rec rec' left d fs h = s_if Rel D _ _ _ _ _ (s_fail Rel D Bytes 8 _) h
 
-  pub s_write : (fuel left n : ℕ) (d : StructDef) (fs : Fields) → E.defs.struct n ≡ some d → L'.struct n ≡ some d
+  pub s_write : (fuel left n : ℕ) (d : StructDef) (fs : Fields) → E.defs.struct n ≡ Some d → L'.struct n ≡ Some d
       → Sim Rel D (write E fuel left d fs) (write E' fuel left d fs)
   unfolding write
   s_write zero left n d fs q q' = s_fail Rel D Bytes 8 _
@@ -275,11 +274,11 @@ module _ (R : Fewer) where
       (s_started (write E fuel (left - 1)) (write E' fuel (left - 1)) (s_write fuel (left - 1)) (b_write fuel (left - 1)) (t_write fuel (left - 1)) d fs)
 
   -- the whole run
-  pub s_root : (n : ℕ) (d : StructDef) (fs : Fields) → E.defs.struct n ≡ some d → L'.struct n ≡ some d → Sim Rel D (root E d fs) (root E' d fs)
+  pub s_root : (n : ℕ) (d : StructDef) (fs : Fields) → E.defs.struct n ≡ Some d → L'.struct n ≡ Some d → Sim Rel D (root E d fs) (root E' d fs)
   unfolding root
   s_root n d fs q q' = s_bind Rel D _ _ _ _ (s_write 32 32 n d fs q q') (λ bs. s_add R d.name bs)
 
   -- the root's name is used by its end
-  pub t_root : (n : ℕ) (d : StructDef) (fs : Fields) → E.defs.struct n ≡ some d → contains n U.structs ≡ false → Tells D ⊥ (root E d fs)
+  pub t_root : (n : ℕ) (d : StructDef) (fs : Fields) → E.defs.struct n ≡ Some d → contains n U.structs ≡ false → Tells D ⊥ (root E d fs)
   unfolding root
   t_root n d fs q a = t_left D ⊥ _ _ (t_write 32 32 n d fs q a) (λ bs s₀. b_add R s₀ d.name bs)

@@ -1,10 +1,11 @@
 -- One run follows another: the rules that hold for every relation R of states and every condition D on the end of the first run.
 -- Assumes nothing.
+use Rattle.std.specs.Prelude.{Option, Some, None, Ok, Err}
 use Prim.Native.Nat.{ℕ}
 use mathlib.Core.Path.{◌≡◌, refl, subst}
 use mathlib.Core.Bool.{Bool, true, false}
-use mathlib.Core.Option.{Option, none, some}
-use Rattle.coerce.specs.Numbers.{Fit, fits, unfit, float_text}
+use Rattle.coerce.specs.Numbers.{Fit}
+use Rattle.coerce.specs.declared.misfit.Misfit.TheVariants.{Unfit, FloatText}
 use Rattle.layout.specs.State.{State, Out, done, stop, M, after, bind, ret, fail, if_m, opt_m, fit_m}
 use Rattle.layout.proofs.Keep.{Claim, always, Okay, Keeps, k_ret, k_fail, k_bind}
 
@@ -70,16 +71,16 @@ module _ (R : State → State → Type 0) (D : State → Type 0) where
   s_if_left true m n p hm hn = hm
   s_if_left false m n p hm hn = hn
 
-  pub s_opt : {X A : Type 0} (o : Option X) (m m' : M A) (f f' : X → M A) → Sim R D m m' → ((x : X) → o ≡ some x → Sim R D (f x) (f' x)) → Sim R D (opt_m o m f) (opt_m o m' f')
+  pub s_opt : {X A : Type 0} (o : Option X) (m m' : M A) (f f' : X → M A) → Sim R D m m' → ((x : X) → o ≡ Some x → Sim R D (f x) (f' x)) → Sim R D (opt_m o m f) (opt_m o m' f')
   unfolding opt_m
-  s_opt none m m' f f' hm hf = hm
-  s_opt (some x) m m' f f' hm hf = hf x refl
+  s_opt None m m' f f' hm hf = hm
+  s_opt (Some x) m m' f f' hm hf = hf x refl
 
   pub s_fit : {X A : Type 0} (o : Fit X) (m m' : M A) (f f' : X → M A) → Sim R D m m' → ((x : X) → Sim R D (f x) (f' x)) → Sim R D (fit_m o m f) (fit_m o m' f')
   unfolding fit_m
-  s_fit {A = A} (fits x) m m' f f' hm hf = hf x
-  s_fit {A = A} unfit m m' f f' hm hf = hm
-  s_fit {A = A} float_text m m' f f' hm hf = s_fail A 11 _
+  s_fit {A = A} (Ok x) m m' f f' hm hf = hf x
+  s_fit {A = A} (Err Unfit) m m' f f' hm hf = hm
+  s_fit {A = A} (Err FloatText) m m' f f' hm hf = s_fail A 11 _
 
   -- what the end of the first run tells may be used to follow it; where it tells what is false, there is nothing to follow
   pub s_know : {A : Type 0} (K : Type 0) (m n : M A) → Backs D m → Tells D K m → (K → Sim R D m n) → Sim R D m n

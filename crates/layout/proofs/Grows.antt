@@ -1,12 +1,12 @@
 -- Events only grow: what an action ends with, be it an answer or a refusal, has the events that it began with and maybe more.
 -- So too many remarks at one point of a run are too many at its end, and 14 may be refused on the spot.
 -- Assumes nothing.
+use Rattle.std.specs.Prelude.{Option, Some, None}
 use Prim.Native.Nat.{ℕ, ◌+◌, ◌≤◌, ◌<◌}
 use native.Mathlib.Omega.{arith}
 use mathlib.Core.Bool.{Bool, true, false, cond}
 use mathlib.Core.Path.{◌≡◌, refl, sym, ◌∙◌, ap, subst}
 use mathlib.Core.List.{List, [], ◌∷◌, ◌++◌, append-nil, append_assoc}
-use mathlib.Core.Option.{Option, none, some}
 use lib.Dec.{leb}
 use lib.ListN.{length}
 use Rattle.value.specs.Rows.{Fields}
@@ -44,8 +44,8 @@ paid es s n false x = x
 
 settled : {A : Type 0} (es : List Remark) (s : State) (e : ℕ) (o : Option (A × Core)) → Extends es s.events → Okay (growing es) (settle s e o)
 unfolding settle
-settled es s e none x = x
-settled es s e (some r) x = x
+settled es s e None x = x
+settled es s e (Some r) x = x
 
 -- every action keeps it
 pub grow_prims : (E : Env) (es : List Remark) → Prims E (growing es)

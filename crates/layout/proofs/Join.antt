@@ -1,15 +1,14 @@
 -- A structure's bytes are what its members' steps leave, one after the other; a run's are its elements' in order: `parts_join_law`.
 -- Assumes nothing.
+use Rattle.std.specs.Prelude.{Option, Some, None, option_map}
 use Prim.Native.Nat.{ℕ, suc, ◌+◌, ◌-◌, ◌*◌}
 use native.Mathlib.Omega.{arith}
 use mathlib.Core.Path.{◌≡◌, refl, sym, ◌∙◌, ap, subst}
 use mathlib.Core.Bool.{Bool, true, false, ◌||◌}
 use mathlib.Core.List.{List, [], ◌∷◌, ◌++◌, append_assoc}
-use mathlib.Core.Option.{Option, none, some}
 use lib.Dec.{eqb}
 use lib.ListN.{length}
 use Rattle.numbers.specs.Words.{Bytes, zeros}
-use Rattle.numbers.specs.Result.{map_option}
 use Rattle.value.specs.Rows.{Fields, row, fields_of, field_named, Struct, Null}
 use Rattle.schema.specs.Defs.{StructDef, Member}
 use Rattle.layout.specs.State.{State, Env, Out, done, stop, M, after, bind, ret, fail, if_m, opt_m, pay, use_struct}
@@ -38,14 +37,14 @@ unfolding bind
 came_bind m k s b u e = came (m s) k b u e
 
 -- equal answers with equal states
-same_done : {A : Type 0} (a b : A) (s t : State) → ◌≡◌ {A = Out (Option A)} (done (some a) s) (done (some b) t) → (a ≡ b) × (s ≡ t)
+same_done : {A : Type 0} (a b : A) (s t : State) → ◌≡◌ {A = Out (Option A)} (done (Some a) s) (done (Some b) t) → (a ≡ b) × (s ≡ t)
 same_done a b s t e = (cc, cc)
 
 -- what w wrote is answered
-answered : (m : M Bytes) (s : State) (bs : Bytes) (u : State) → bind m (λ b. ret (some b)) s ≡ done (some bs) u → m s ≡ done bs u
+answered : (m : M Bytes) (s : State) (bs : Bytes) (u : State) → bind m (λ b. ret (Some b)) s ≡ done (Some bs) u → m s ≡ done bs u
 unfolding ret
 answered m s bs u e =
-    let c = came_bind m (λ b. ret (some b)) s (some bs) u e in
+    let c = came_bind m (λ b. ret (Some b)) s (Some bs) u e in
     let (p, q) = same_done c.value bs c.state u c.then' in
     c.first ∙ ap (λ b. done b c.state) p ∙ ap (done bs) q
 
@@ -126,40 +125,40 @@ module _ {X : Type 0} (f : X → M (Option Bytes)) where
   record Front (x : X) (xs : List X) (s : State) (bs : Bytes) (u : State) : Type 0 where
     own : Bytes
     after' : State
-    stepped : f x s ≡ done (some own) after'
+    stepped : f x s ≡ done (Some own) after'
     last : Bytes
-    rest : elements f xs after' ≡ done (some last) u
+    rest : elements f xs after' ≡ done (Some last) u
     joined : bs ≡ own ++ last
 
   -- what follows those behind an element, and what follows the element itself
   joining : Bytes → Option Bytes → M (Option Bytes)
-  joining b p = opt_m p (ret none) (λ bs. ret (some (b ++ bs)))
+  joining b p = opt_m p (ret None) (λ bs. ret (Some (b ++ bs)))
 
   behind_one : List X → Option Bytes → M (Option Bytes)
-  behind_one xs o = opt_m o (ret none) (λ b. bind (elements f xs) (joining b))
+  behind_one xs o = opt_m o (ret None) (λ b. bind (elements f xs) (joining b))
 
-  front : (x : X) (xs : List X) (s : State) (bs : Bytes) (u : State) → elements f (x ∷ xs) s ≡ done (some bs) u → Front x xs s bs u
+  front : (x : X) (xs : List X) (s : State) (bs : Bytes) (u : State) → elements f (x ∷ xs) s ≡ done (Some bs) u → Front x xs s bs u
   unfolding elements behind_one joining opt_m ret
-  front x xs s bs u e = let c = came_bind (f x) (behind_one xs) s (some bs) u e in own_there c.value c.state c.first c.then'
+  front x xs s bs u e = let c = came_bind (f x) (behind_one xs) s (Some bs) u e in own_there c.value c.state c.first c.then'
     where
-      last_there : (b : Bytes) (t : State) → f x s ≡ done (some b) t → (o : Option Bytes) (v : State) → elements f xs t ≡ done o v → joining b o v ≡ done (some bs) u → Front x xs s bs u
-      last_there b t g none v h r = let z : ◌≡◌ {A = ℕ} 0 1 = cc in absurd (omega arith)
-      last_there b t g (some l) v h r =
+      last_there : (b : Bytes) (t : State) → f x s ≡ done (Some b) t → (o : Option Bytes) (v : State) → elements f xs t ≡ done o v → joining b o v ≡ done (Some bs) u → Front x xs s bs u
+      last_there b t g None v h r = let z : ◌≡◌ {A = ℕ} 0 1 = cc in absurd (omega arith)
+      last_there b t g (Some l) v h r =
           let (p, q) = same_done (b ++ l) bs v u r in
-          record { own = b; after' = t; stepped = g; last = l; rest = h ∙ ap (done (some l)) q; joined = sym p }
+          record { own = b; after' = t; stepped = g; last = l; rest = h ∙ ap (done (Some l)) q; joined = sym p }
 
-      own_there : (o : Option Bytes) (t : State) → f x s ≡ done o t → behind_one xs o t ≡ done (some bs) u → Front x xs s bs u
-      own_there none t g r = let z : ◌≡◌ {A = ℕ} 0 1 = cc in absurd (omega arith)
-      own_there (some b) t g r =
-          let c = came_bind (elements f xs) (joining b) t (some bs) u r in
+      own_there : (o : Option Bytes) (t : State) → f x s ≡ done o t → behind_one xs o t ≡ done (Some bs) u → Front x xs s bs u
+      own_there None t g r = let z : ◌≡◌ {A = ℕ} 0 1 = cc in absurd (omega arith)
+      own_there (Some b) t g r =
+          let c = came_bind (elements f xs) (joining b) t (Some bs) u r in
           last_there b t g c.value c.state c.first c.then'
 
-  with_front : (x : X) (xs : List X) (s : State) (b : Bytes) (t : State) (l : Bytes) (u : State) → f x s ≡ done (some b) t → elements f xs t ≡ done (some l) u
-      → elements f (x ∷ xs) s ≡ done (some (b ++ l)) u
+  with_front : (x : X) (xs : List X) (s : State) (b : Bytes) (t : State) (l : Bytes) (u : State) → f x s ≡ done (Some b) t → elements f xs t ≡ done (Some l) u
+      → elements f (x ∷ xs) s ≡ done (Some (b ++ l)) u
   unfolding elements bind after opt_m ret
   with_front x xs s b t l u g h = rw (g, h) refl
 
-  run_parts : (front : List X) (x : X) (behind : List X) (s : State) (bs : Bytes) (u : State) → elements f (front ++ (x ∷ behind)) s ≡ done (some bs) u
+  run_parts : (front : List X) (x : X) (behind : List X) (s : State) (bs : Bytes) (u : State) → elements f (front ++ (x ∷ behind)) s ≡ done (Some bs) u
       → Contains f front x behind s bs u
   run_parts [] x behind s bs u e =
       let c = front x behind s bs u e in
@@ -200,34 +199,34 @@ module _ (E : Env) (w : Writer) where
   unfolding member array_member array_of embedded_array need if_m opt_m bind after ret
   embedded_is d e v buf s x r t k i a p g h = rw (k, i, a, p, g, h) refl
 
-  kept_run : {X : Type 0} (stride block : ℕ) (f : X → M (Option Bytes)) (xs : List X) (s : State) (r : Run) (u : State) → run E stride block f xs s ≡ done (some r) u
-      → (r.block ≡ block) × ((t : State) × (elements f xs t ≡ done (some r.bytes) u))
+  kept_run : {X : Type 0} (stride block : ℕ) (f : X → M (Option Bytes)) (xs : List X) (s : State) (r : Run) (u : State) → run E stride block f xs s ≡ done (Some r) u
+      → (r.block ≡ block) × ((t : State) × (elements f xs t ≡ done (Some r.bytes) u))
   unfolding run ret
   kept_run {X} stride block f xs s r u e =
-      let c = came_bind (pay E (16 + stride * length xs)) (λ _. bind (elements f xs) ended) s (some r) u e in
-      let t = came_bind (elements f xs) ended c.state (some r) u c.then' in
+      let c = came_bind (pay E (16 + stride * length xs)) (λ _. bind (elements f xs) ended) s (Some r) u e in
+      let t = came_bind (elements f xs) ended c.state (Some r) u c.then' in
       go c.state t.value t.state t.first t.then'
     where
       ended : Option Bytes → M (Option Run)
-      ended o = ret (map_option (λ bs. record { bytes = bs; block = block }) o)
+      ended o = ret (option_map (λ bs. record { bytes = bs; block = block }) o)
 
-      go : (t : State) (o : Option Bytes) (v : State) → elements f xs t ≡ done o v → ended o v ≡ done (some r) u
-          → (r.block ≡ block) × ((t : State) × (elements f xs t ≡ done (some r.bytes) u))
-      go t none v g h = let z : ◌≡◌ {A = ℕ} 0 1 = cc in absurd (omega arith)
-      go t (some bs) v g h =
+      go : (t : State) (o : Option Bytes) (v : State) → elements f xs t ≡ done o v → ended o v ≡ done (Some r) u
+          → (r.block ≡ block) × ((t : State) × (elements f xs t ≡ done (Some r.bytes) u))
+      go t None v g h = let z : ◌≡◌ {A = ℕ} 0 1 = cc in absurd (omega arith)
+      go t (Some bs) v g h =
           let (p, q) = same_done {A = Run} (record { bytes = bs; block = block }) r v u h in
-          (ap (λ (x : Run). x.block) (sym p), (t, g ∙ ap (λ (x : Run). done (some x.bytes) v) p ∙ ap (done (some r.bytes)) q))
+          (ap (λ (x : Run). x.block) (sym p), (t, g ∙ ap (λ (x : Run). done (Some x.bytes) v) p ∙ ap (done (Some r.bytes)) q))
 
-  element_is : (d : StructDef) (e : Member) (i : StructDef) (r : ℕ) (s : State) (bs : Bytes) (u : State) → struct_element E w d e i r s ≡ done (some bs) u
+  element_is : (d : StructDef) (e : Member) (i : StructDef) (r : ℕ) (s : State) (bs : Bytes) (u : State) → struct_element E w d e i r s ≡ done (Some bs) u
       → (t : State) × (w i (fields_of E.sheet (row E.sheet r)) t ≡ done bs u)
   unfolding struct_element
   element_is d e i r s bs u x =
       let v = row E.sheet r in
       let m : M Bytes = w i (fields_of E.sheet v) in
-      let c = came_bind (if_m (eqb v.kind Struct || eqb v.kind Null) (ret tt) (says d e 9 0)) (λ _. bind m (λ b. ret (some b))) s (some bs) u x in
+      let c = came_bind (if_m (eqb v.kind Struct || eqb v.kind Null) (ret tt) (says d e 9 0)) (λ _. bind m (λ b. ret (Some b))) s (Some bs) u x in
       (c.state, answered m c.state bs u c.then')
 
-  pair_is : (i : StructDef) (p : ℕ × ℕ) (s : State) (bs : Bytes) (u : State) → pair_element E w i p s ≡ done (some bs) u → w i (pair_fields i p) s ≡ done bs u
+  pair_is : (i : StructDef) (p : ℕ × ℕ) (s : State) (bs : Bytes) (u : State) → pair_element E w i p s ≡ done (Some bs) u → w i (pair_fields i p) s ≡ done bs u
   unfolding pair_element
   pair_is i p s bs u x = answered (w i (pair_fields i p)) s bs u x
 

@@ -1,14 +1,14 @@
 -- What an action keeps: rules for a claim on states, one for each way to put actions together, and the claims that are made.
 -- Assumes nothing.
+use Rattle.std.specs.Prelude.{Option, Some, None, option_map, Ok, Err}
 use Prim.Native.Nat.{ℕ, ◌≤◌}
 use native.Mathlib.Omega.{arith}
 use mathlib.Core.Bool.{Bool, true, false}
 use mathlib.Core.Path.{◌≡◌, refl}
 use mathlib.Core.List.{List}
-use mathlib.Core.Option.{Option, none, some}
 use Rattle.numbers.specs.Words.{Bytes}
-use Rattle.numbers.specs.Result.{map_option}
-use Rattle.coerce.specs.Numbers.{Fit, fits, unfit, float_text}
+use Rattle.coerce.specs.Numbers.{Fit}
+use Rattle.coerce.specs.declared.misfit.Misfit.TheVariants.{Unfit, FloatText}
 use Rattle.layout.specs.State.{State, Out, done, stop, M, Remark, after, bind, ret, fail, if_m, opt_m, fit_m}
 use Rattle.layout.specs.Runs.{Run}
 
@@ -32,8 +32,8 @@ Keeps C m = (s : State) → C.holds s → Okay C (m s)
 
 -- an answer that is a run goes to a block with an allowed name
 abbrev pub OkayRun : Claim → Out (Option Run) → Type 0
-OkayRun C (done none s) = C.holds s
-OkayRun C (done (some r) s) = C.files r.block × C.holds s
+OkayRun C (done None s) = C.holds s
+OkayRun C (done (Some r) s) = C.files r.block × C.holds s
 OkayRun C (stop n es) = C.refused n es
 
 unfoldable pub KeepsRun : Claim → M (Option Run) → Type 0
@@ -74,27 +74,27 @@ module _ (C : Claim) where
   k_when true m n hm hn = hm refl
   k_when false m n hm hn = hn
 
-  pub k_opt : {X A : Type 0} (o : Option X) (m : M A) (f : X → M A) → Keeps C m → ((x : X) → o ≡ some x → Keeps C (f x)) → Keeps C (opt_m o m f)
+  pub k_opt : {X A : Type 0} (o : Option X) (m : M A) (f : X → M A) → Keeps C m → ((x : X) → o ≡ Some x → Keeps C (f x)) → Keeps C (opt_m o m f)
   unfolding opt_m
-  k_opt none m f hm hf = hm
-  k_opt (some x) m f hm hf = hf x refl
+  k_opt None m f hm hf = hm
+  k_opt (Some x) m f hm hf = hf x refl
 
   pub k_fit : {X A : Type 0} (o : Fit X) (m : M A) (f : X → M A) → Refusable C → Keeps C m → ((x : X) → Keeps C (f x)) → Keeps C (fit_m o m f)
   unfolding fit_m
-  k_fit {A = A} (fits x) m f z hm hf = hf x
-  k_fit {A = A} unfit m f z hm hf = hm
-  k_fit {A = A} float_text m f z hm hf = k_fail A 11 (λ s p. z 11 s (omega arith) (omega arith) p)
+  k_fit {A = A} (Ok x) m f z hm hf = hf x
+  k_fit {A = A} (Err Unfit) m f z hm hf = hm
+  k_fit {A = A} (Err FloatText) m f z hm hf = k_fail A 11 (λ s p. z 11 s (omega arith) (omega arith) p)
 
   -- the same for runs
 
-  pub r_none : KeepsRun C (ret none)
+  pub r_none : KeepsRun C (ret None)
   unfolding KeepsRun ret
   r_none s p = p
 
-  pub r_map : (block : ℕ) → C.files block → (o : Option Bytes) → KeepsRun C (ret (map_option (λ bs. record { bytes = bs; block = block }) o))
+  pub r_map : (block : ℕ) → C.files block → (o : Option Bytes) → KeepsRun C (ret (option_map (λ bs. record { bytes = bs; block = block }) o))
   unfolding KeepsRun ret
-  r_map block n none s p = p
-  r_map block n (some bs) s p = (n, p)
+  r_map block n None s p = p
+  r_map block n (Some bs) s p = (n, p)
 
   r_after : {A : Type 0} (k : A → M (Option Run)) → ((a : A) → KeepsRun C (k a)) → (o : Out A) → Okay C o → OkayRun C (after o k)
   unfolding KeepsRun after
@@ -110,10 +110,10 @@ module _ (C : Claim) where
   r_if true m n hm hn = hm
   r_if false m n hm hn = hn
 
-  pub r_opt : {X : Type 0} (o : Option X) (m : M (Option Run)) (f : X → M (Option Run)) → KeepsRun C m → ((x : X) → o ≡ some x → KeepsRun C (f x)) → KeepsRun C (opt_m o m f)
+  pub r_opt : {X : Type 0} (o : Option X) (m : M (Option Run)) (f : X → M (Option Run)) → KeepsRun C m → ((x : X) → o ≡ Some x → KeepsRun C (f x)) → KeepsRun C (opt_m o m f)
   unfolding opt_m
-  r_opt none m f hm hf = hm
-  r_opt (some x) m f hm hf = hf x refl
+  r_opt None m f hm hf = hm
+  r_opt (Some x) m f hm hf = hf x refl
 
   -- the run's name may be forgotten
   pub r_keeps : (m : M (Option Run)) → KeepsRun C m → Keeps C m
@@ -121,14 +121,14 @@ module _ (C : Claim) where
   r_keeps m h s p = go (m s) (h s p)
     where
       go : (o : Out (Option Run)) → OkayRun C o → Okay C o
-      go (done none t) q = q
-      go (done (some r) t) q = q.1
+      go (done None t) q = q
+      go (done (Some r) t) q = q.1
       go (stop n es) q = q
 
   l_after : {A : Type 0} (m : M A) (k : Run → M A) → Keeps C m → ((r : Run) → C.files r.block → Keeps C (k r)) → (o : Out (Option Run)) → OkayRun C o → Okay C (after o (λ q. opt_m q m k))
   unfolding Keeps after opt_m
-  l_after m k hm hk (done none s) p = hm s p
-  l_after m k hm hk (done (some r) s) p = hk r p.0 s p.1
+  l_after m k hm hk (done None s) p = hm s p
+  l_after m k hm hk (done (Some r) s) p = hk r p.0 s p.1
   l_after m k hm hk (stop n es) p = p
 
   -- what follows a run knows that its block's name is allowed

@@ -1,11 +1,11 @@
 -- An item is laid, and its pointer put into bytes: what is put is read again.
 -- Assumes nothing.
+use Rattle.std.specs.Prelude.{Option, Some}
 use Prim.Native.Nat.{ℕ, suc, ◌+◌, ◌^◌, ◌≤◌, ◌<◌}
 use native.Mathlib.Omega.{arith}
 use mathlib.Core.Path.{◌≡◌, refl, sym, ◌∙◌, ap, subst}
 use mathlib.Core.Bool.{Bool, true, false, cond, ◌&&◌}
 use mathlib.Core.List.{List, [], ◌∷◌, ◌++◌, map, append-nil, append_assoc}
-use mathlib.Core.Option.{Option, some}
 use lib.Dec.{eqb, leb}
 use lib.ListN.{length, length-append}
 use borrow.Author.Tests.{leb-true, eqb-true}
@@ -73,11 +73,11 @@ Adds n bs c (done p s) = Added n bs p c s.core
 Adds n bs c (stop k es) = Unit {0}
 
 -- the block that an item goes to has the item's name
-spot_here : (n need : ℕ) (bs : List Block) → (b : Block) × (nth (spot n need bs).blocks (spot n need bs).before ≡ some b) × (b.name ≡ n)
+spot_here : (n need : ℕ) (bs : List Block) → (b : Block) × (nth (spot n need bs).blocks (spot n need bs).before ≡ Some b) × (b.name ≡ n)
 unfolding nth
 spot_here n need [] = unfold spot in (_, refl, refl)
 spot_here n need (b ∷ bs) =
-    spot_case (λ p. (c : Block) × (nth p.blocks p.before ≡ some c) × (c.name ≡ n)) n need b bs (_, refl, refl) (spot_here n need bs)
+    spot_case (λ p. (c : Block) × (nth p.blocks p.before ≡ Some c) × (c.name ≡ n)) n need b bs (_, refl, refl) (spot_here n need bs)
 
 pub adds : (n : ℕ) (bs : Bytes) (s : State) → Adds n bs s.core (add_item n bs s)
 unfolding add_item on_core settle add_item_c file
@@ -138,7 +138,7 @@ module _ (n : ℕ) (bs : Bytes) (c : Core) where
   points off f h (done p s) a = subst (λ (k : ℕ). Lays n bs k c s.core) (sym (h p (added_short n bs p c s.core a))) a.lays
   points off f h (stop k es) a = tt
 
-  pub points_first : (f : ℕ → Bytes) → ((p : ℕ) → p < 256 ^ 4 → read_at 4 (f p) 0 ≡ p) → (o : Out ℕ) → Adds n bs c o → PointsFirst n bs c (after o (λ p. ret (some (f p))))
+  pub points_first : (f : ℕ → Bytes) → ((p : ℕ) → p < 256 ^ 4 → read_at 4 (f p) 0 ≡ p) → (o : Out ℕ) → Adds n bs c o → PointsFirst n bs c (after o (λ p. ret (Some (f p))))
   unfolding after ret
   points_first f h (done p s) a = subst (λ (k : ℕ). Lays n bs k c s.core) (sym (h p (added_short n bs p c s.core a))) a.lays
   points_first f h (stop k es) a = tt
@@ -170,7 +170,7 @@ text_slot_law E sub t buf off s h e =
     rw e (points 1 (t ++ (0 ∷ [])) s.core off _ (text_read sub t buf off h) (add_string E t s) (adds_text E t s))
 
 -- runs, whatever m made them from
-pub run_slot : (m : M (Option Run)) (n off : ℕ) (buf : Bytes) (s : State) (r : Run) (t : State) → off + 12 ≤ length buf → m s ≡ done (some r) t
+pub run_slot : (m : M (Option Run)) (n off : ℕ) (buf : Bytes) (s : State) (r : Run) (t : State) → off + 12 ≤ length buf → m s ≡ done (Some r) t
     → Points r.block r.bytes off t.core (laid_run m n off buf s)
 unfolding laid_run bind after opt_m
 run_slot m n off buf s r t h e =
@@ -179,13 +179,13 @@ run_slot m n off buf s r t h e =
 -- structures by pointer
 
 -- what follows an answer that is there
-pub there : {A B : Type 0} (o : Out A) (k : Option A → M B) → after (after o (λ p. ret (some p))) k ≡ after o (λ p. k (some p))
+pub there : {A B : Type 0} (o : Out A) (k : Option A → M B) → after (after o (λ p. ret (Some p))) k ≡ after o (λ p. k (Some p))
 unfolding after ret
 there (done a s) k = refl
 there (stop n es) k = refl
 
 module _ (E : Env) (w : Writer) (d : StructDef) (e : Member) where
-  pub pointed_is_law : (ref : ℕ) (v : Row) (s : State) (i : StructDef) (bs : Bytes) (t : State) → E.defs.struct (own_type E v ref) ≡ some i → w i (fields_of E.sheet v) s ≡ done bs t
-      → pointed E w d e ref v s ≡ after (add_item i.name bs t) (λ p. ret (some p))
+  pub pointed_is_law : (ref : ℕ) (v : Row) (s : State) (i : StructDef) (bs : Bytes) (t : State) → E.defs.struct (own_type E v ref) ≡ Some i → w i (fields_of E.sheet v) s ≡ done bs t
+      → pointed E w d e ref v s ≡ after (add_item i.name bs t) (λ p. ret (Some p))
   unfolding pointed opt_m bind after
   pointed_is_law ref v s i bs t f g = rw (f, g)

@@ -1,11 +1,11 @@
 -- What a layout and a building are made of, both ways: `made` and `makes`, `built` and `builds`. What the primitive actions keep holds of every layout: `reached`.
 -- Assumes nothing.
+use Rattle.std.specs.Prelude.{Option, Some, None}
 use Prim.Native.Nat.{ℕ, ◌≤◌, ◌<◌}
 use native.Mathlib.Omega.{arith}
 use mathlib.Core.Path.{◌≡◌, refl, sym, ap, subst}
 use mathlib.Core.Bool.{Bool, true, false, cond, ◌||◌}
 use mathlib.Core.List.{List}
-use mathlib.Core.Option.{Option, none, some}
 use lib.Dec.{ltb}
 use lib.ListN.{length}
 use borrow.Author.Tests.{ltb-false, le-ltb, lt-ltb}
@@ -28,10 +28,10 @@ unfolding and_then
 then_ok (ok a) k b e = (a, refl, e)
 then_ok (refused n) k b e = let z : ◌≡◌ {A = ℕ} 0 1 = cc in absurd (omega arith)
 
-needed_ok : {A : Type 0} (o : Option A) (n : ℕ) (a : A) → needed o n ≡ ok a → o ≡ some a
+needed_ok : {A : Type 0} (o : Option A) (n : ℕ) (a : A) → needed o n ≡ ok a → o ≡ Some a
 unfolding needed
-needed_ok (some b) n a e = cc
-needed_ok none n a e = let z : ◌≡◌ {A = ℕ} 0 1 = cc in absurd (omega arith)
+needed_ok (Some b) n a e = cc
+needed_ok None n a e = let z : ◌≡◌ {A = ℕ} 0 1 = cc in absurd (omega arith)
 
 within_ok : {A : Type 0} (records : ℕ) (es : List Remark) (r : Result A) (a : A) → within records es r ≡ ok a → r ≡ ok a
 unfolding within
@@ -50,7 +50,7 @@ pub record Made (T S : Bytes) (work : ℕ) (l : Laid) : Type 0 where
   pub sheet_ok_law : sheet_ok T ≡ ok tt
   pub schema_is : schema_of S ≡ ok schema
   pub defs_are : l.defs ≡ winning schema
-  pub def_is : (winning schema).struct (row T 0).a ≡ some def
+  pub def_is : (winning schema).struct (row T 0).a ≡ Some def
   pub room : ltb work (work_need (index_entries schema)) ≡ false
   pub ran : root (env_of T schema work) def (fields_of T (row T 0)) empty_state ≡ done l.pointer l.state
 
@@ -75,7 +75,7 @@ made T S work records l e =
     let (d, c, h) = then_ok (needed ((winning K).struct (row T 0).a) 7) _ l g in
     go u a K b d (needed_ok ((winning K).struct (row T 0).a) 7 d c) (ltb work (work_need (index_entries K))) refl h
   where
-    go : (u : Unit {0}) → sheet_ok T ≡ ok u → (K : Schema) → schema_of S ≡ ok K → (d : StructDef) → (winning K).struct (row T 0).a ≡ some d → (b : Bool)
+    go : (u : Unit {0}) → sheet_ok T ≡ ok u → (K : Schema) → schema_of S ≡ ok K → (d : StructDef) → (winning K).struct (row T 0).a ≡ Some d → (b : Bool)
         → ltb work (work_need (index_entries K)) ≡ b
         → cond b (refused 12) (laid_from (winning K) records (root (env_of T K work) d (fields_of T (row T 0)) empty_state)) ≡ ok l
         → Made T S work l

@@ -1,11 +1,11 @@
 -- The blocks tile the data section, and each item's bytes stand at its block's place plus its pointer's start.
 -- Assumes nothing.
+use Rattle.std.specs.Prelude.{Option, Some, None}
 use Prim.Native.Nat.{ℕ, zero, suc, ◌+◌, ◌-◌, ◌≤◌, ◌<◌}
 use native.Mathlib.Omega.{arith}
 use native.Mathlib.Nat.{add-zero, zero-add, suc-add, add-suc}
 use mathlib.Core.Path.{◌≡◌, refl, sym, ◌∙◌, ap, subst}
 use mathlib.Core.List.{List, [], ◌∷◌, ◌++◌, append_assoc}
-use mathlib.Core.Option.{Option, none, some}
 use lib.ListN.{length, take, drop, length-append}
 use lib.Seq.{take-append_seam, drop-append_seam}
 use Rattle.numbers.specs.Words.{Bytes, words, bytes_of}
@@ -90,18 +90,18 @@ blocks_tile_law at (b ∷ bs) = (refl, subst (λ n. BlocksTile (at + b.len) (pla
 pub blocks_tiled : (c : Core) → Tiled c → BlocksTile 16 (places_from 16 c.blocks) (length (psin_of (data_of c)))
 blocks_tiled c t = subst (λ n. BlocksTile 16 (places_from 16 c.blocks) n) (omega (arith, psin_length (data_of c), data_total c t)) (blocks_tile_law 16 c.blocks)
 
-pub place_length : (at k : ℕ) (bs : List Block) (b : R.Block) → nth (places_from at bs) k ≡ some b → b.length' ≡ len_at k bs
+pub place_length : (at k : ℕ) (bs : List Block) (b : R.Block) → nth (places_from at bs) k ≡ Some b → b.length' ≡ len_at k bs
 unfolding places_from len_at nth
 place_length at k [] b e = let z : ◌≡◌ {A = ℕ} 0 1 = cc in absurd (omega arith)
 place_length at zero (c ∷ bs) b e = sym (ap length_of e)
   where
     length_of : Option R.Block → ℕ
-    length_of none = 0
-    length_of (some x) = x.length'
+    length_of None = 0
+    length_of (Some x) = x.length'
 place_length at (suc k) (c ∷ bs) b e = place_length (at + c.len) k bs b e
 
 -- where a block stands
-pub place_at : (at k : ℕ) (bs : List Block) → k < length bs → (b : R.Block) × (nth (places_from at bs) k ≡ some b) × (b.place ≡ at + before k bs)
+pub place_at : (at k : ℕ) (bs : List Block) → k < length bs → (b : R.Block) × (nth (places_from at bs) k ≡ Some b) × (b.place ≡ at + before k bs)
 unfolding places_from nth before
 place_at at k [] h = absurd (omega (arith, h))
 place_at at zero (c ∷ bs) h = (_, refl, sym (add-zero at))
@@ -109,7 +109,7 @@ place_at at (suc k) (c ∷ bs) h =
     let (b, e, p) = place_at (at + c.len) k bs (omega (arith, h)) in
     (b, e, omega (arith, p))
 
-pub items_tiled : (c : Core) → Tiled c → (k : ℕ) (b : R.Block) → numbered (places_from 16 c.blocks) k ≡ some b → ItemsTile 0 (items_in k c.items) b.length'
+pub items_tiled : (c : Core) → Tiled c → (k : ℕ) (b : R.Block) → numbered (places_from 16 c.blocks) k ≡ Some b → ItemsTile 0 (items_in k c.items) b.length'
 items_tiled c t zero b e = let z : ◌≡◌ {A = ℕ} 0 1 = cc in absurd (omega arith)
 items_tiled c t (suc k) b e = rw (place_length 16 k c.blocks b e) (t.tiles k)
 
@@ -196,7 +196,7 @@ module _ (c : Core) (t : Tiled c) where
           block = blk;
           number = says_block i f h3;
           start = ss;
-          found = subst (λ n. numbered P.blocks n ≡ some blk) (sym (says_block i f h3 ∙ q)) (rw pb nb);
+          found = subst (λ n. numbered P.blocks n ≡ Some blk) (sym (says_block i f h3 ∙ q)) (rw pb nb);
           bytes = rw (pd, ss, sp) (part_at front i.bytes back (blk.place + i.start) (omega (arith, len, pl)));
         }
 

@@ -1,11 +1,11 @@
 -- A step puts no pointer but that of the item that it laid last: rules, one for each way to put steps together, and the members that put one.
 -- Assumes nothing.
+use Rattle.std.specs.Prelude.{Option, Some, None}
 use Prim.Native.Nat.{ℕ, ◌+◌, ◌^◌, ◌≤◌, ◌<◌}
 use native.Mathlib.Omega.{arith}
 use mathlib.Core.Path.{◌≡◌, refl}
 use mathlib.Core.Bool.{Bool, true, false, ◌&&◌, false≢true}
 use mathlib.Core.List.{List, [], ◌∷◌, ◌++◌}
-use mathlib.Core.Option.{Option, none, some}
 use mathlib.Core.Logic.{inl, inr}
 use lib.Dec.{eqb, leb}
 use lib.ListN.{length}
@@ -54,8 +54,8 @@ module _ (buf : Bytes) (off : ℕ) where
 
   pub o_opt : {X : Type 0} (o : Option X) (m : M Bytes) (f : X → M Bytes) → Only m → ((x : X) → Only (f x)) → Only (opt_m o m f)
   unfolding opt_m
-  o_opt none m f hm hf = hm
-  o_opt (some x) m f hm hf = hf x
+  o_opt None m f hm hf = hm
+  o_opt (Some x) m f hm hf = hf x
 
   -- an item was laid
   o_points : (n : ℕ) (bs : Bytes) (c : Core) (o : Out Bytes) → Points n bs off c o → PutsOnly c buf off o
@@ -98,19 +98,19 @@ module _ (buf : Bytes) (off : ℕ) (f : ℕ → Bytes) (h : (p : ℕ) → p < 25
   put : Option ℕ → M Bytes
   put o = opt_m o (ret buf) (λ p. ret (f p))
 
-  o_none : (m : M (Unit {0})) → Only buf off (bind (bind m (λ _. ret none)) put)
+  o_none : (m : M (Unit {0})) → Only buf off (bind (bind m (λ _. ret None)) put)
   unfolding put bind after ret opt_m
   o_none m s = go (m s)
     where
-      go : (o : Out (Unit {0})) → PutsOnly s.core buf off (after (after o (λ _. ret none)) put)
+      go : (o : Out (Unit {0})) → PutsOnly s.core buf off (after (after o (λ _. ret None)) put)
       go (done a t) = inl refl
       go (stop n es) = tt
 
-  o_some : (m : M Bytes) → OnlyAdds m → (n : ℕ) → Only buf off (bind (bind m (λ bs. bind (add_item n bs) (λ p. ret (some p)))) put)
+  o_some : (m : M Bytes) → OnlyAdds m → (n : ℕ) → Only buf off (bind (bind m (λ bs. bind (add_item n bs) (λ p. ret (Some p)))) put)
   unfolding put bind after opt_m
   o_some m g n s = go (m s) (g s)
     where
-      go : (o : Out Bytes) → Stays s.core o → PutsOnly s.core buf off (after (after o (λ bs. bind (add_item n bs) (λ p. ret (some p)))) put)
+      go : (o : Out Bytes) → Stays s.core o → PutsOnly s.core buf off (after (after o (λ bs. bind (add_item n bs) (λ p. ret (Some p)))) put)
       go (done bs t) x =
           rw there
           (o_since buf off s.core t.core x (after (add_item n bs t) (λ p. ret (f p)))
@@ -124,9 +124,9 @@ module _ (buf : Bytes) (off : ℕ) (f : ℕ → Bytes) (h : (p : ℕ) → p < 25
     where
       go : (o : Option StructDef)
           → Only buf off
-          (bind (opt_m o (bind (says d e 4 (own_type E v ref)) (λ _. ret none)) (λ i. bind (w i (fields_of E.sheet v)) (λ bs. bind (add_item i.name bs) (λ p. ret (some p))))) put)
-      go none = unfold opt_m in o_none (says d e 4 (own_type E v ref))
-      go (some i) = unfold opt_m in o_some (w i (fields_of E.sheet v)) (g i (fields_of E.sheet v)) i.name
+          (bind (opt_m o (bind (says d e 4 (own_type E v ref)) (λ _. ret None)) (λ i. bind (w i (fields_of E.sheet v)) (λ bs. bind (add_item i.name bs) (λ p. ret (Some p))))) put)
+      go None = unfold opt_m in o_none (says d e 4 (own_type E v ref))
+      go (Some i) = unfold opt_m in o_some (w i (fields_of E.sheet v)) (g i (fields_of E.sheet v)) i.name
 
 -- the members that put a pointer, in a structure of full length
 module _ (d : StructDef) (e : Member) (E : Env) (fuel left : ℕ) where

@@ -1,10 +1,10 @@
 -- The sections of a written file, and the schema that it carries: what the rebuild reads.
 -- Assumes nothing.
+use Rattle.std.specs.Prelude.{Option, Some, None}
 use Prim.Native.Nat.{ℕ, ◌+◌, ◌*◌, ◌%◌, ◌^◌, ◌<◌}
 use native.Mathlib.Omega.{arith}
 use mathlib.Core.Path.{◌≡◌, refl, sym, ◌∙◌, ap}
 use mathlib.Core.List.{List, [], ◌∷◌, ◌++◌, append-nil}
-use mathlib.Core.Option.{Option, none, some}
 use lib.ListN.{length, get_or, length-append}
 use Rattle.numbers.specs.Words.{Bytes, read_at, bytes_of, words, Stands}
 use Rattle.numbers.specs.Result.{ok, and_then, map_result, Every}
@@ -73,14 +73,14 @@ module _ (root : ℕ) (bs : List Block) where
 
 -- the file
 
-found_fits : {A : Type 0} (Q : A → Type 0) (f : ℕ → Option A) → ((n : ℕ) (d : A) → f n ≡ some d → Q d) → (ns : List ℕ) → Every Q (found f ns)
+found_fits : {A : Type 0} (Q : A → Type 0) (f : ℕ → Option A) → ((n : ℕ) (d : A) → f n ≡ Some d → Q d) → (ns : List ℕ) → Every Q (found f ns)
 unfolding found
 found_fits Q f h [] = tt
 found_fits {A = A} Q f h (n ∷ ns) = go (f n) refl (found_fits Q f h ns)
   where
     go : (o : Option A) → f n ≡ o → Every Q (found f ns) → Every Q (cons_option o (found f ns))
-    go none e r = r
-    go (some d) e r = (h n d e, r)
+    go None e r = r
+    go (Some d) e r = (h n d e, r)
 
 -- the used definitions fit
 pub used_fits : (L : Lookup) (c : Core) → Fits L → SchemaFits (used_of L c)

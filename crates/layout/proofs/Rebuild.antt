@@ -1,12 +1,12 @@
 -- The rebuild: a built file, as the schema file, gives itself again.
 -- Assumes nothing.
+use Rattle.std.specs.Prelude.{Some, None}
 use Prim.Native.Nat.{ℕ, ◌≤◌, ◌<◌}
 use native.Mathlib.Omega.{arith}
 use native.Mathlib.Nat.{le_refl}
 use mathlib.Core.Path.{◌≡◌, refl, sym, ◌∙◌, ap, subst}
 use mathlib.Core.Logic.{◌⊎◌, inl, inr}
 use mathlib.Core.Bool.{false}
-use mathlib.Core.Option.{none, some}
 use lib.ListN.{length, take}
 use lib.Seq.{take-append_seam}
 use borrow.Author.Tests.{ltb-false, le-ltb}
@@ -40,18 +40,18 @@ no_map_lost E w d e v buf s sub fit kind empty = rw (sub, fit, kind, empty)
 -- the second run: its root is defined, it ends with the pointer p, its state is related to the first run's
 pub record Again (E' : Env) (n : ℕ) (d : StructDef) (fs : Fields) (t₀ : State) (p : ℕ) (s : State) : Type 0 where
   pub state : State
-  pub kept : E'.defs.struct n ≡ some d
+  pub kept : E'.defs.struct n ≡ Some d
   pub ran : root E' d fs t₀ ≡ done p state
   pub related : Rel s state
 
-module _ (R : Fewer) (n : ℕ) (d : StructDef) (fs : Fields) (q : R.first.defs.struct n ≡ some d) (s₀ t₀ : State) (start : Rel s₀ t₀)
+module _ (R : Fewer) (n : ℕ) (d : StructDef) (fs : Fields) (q : R.first.defs.struct n ≡ Some d) (s₀ t₀ : State) (start : Rel s₀ t₀)
     (p : ℕ) (s : State) (ran : root R.first d fs s₀ ≡ done p s) (end : Inside R.used s) where
   -- "7 no": the root is used
-  root_kept : R.defs.struct n ≡ some d
+  root_kept : R.defs.struct n ≡ Some d
   unfolding Tells
   root_kept = go (R.structs_agree n)
     where
-      go : (R.defs.struct n ≡ R.first.defs.struct n) ⊎ ((R.defs.struct n ≡ none) × (contains n R.used.structs ≡ false)) → R.defs.struct n ≡ some d
+      go : (R.defs.struct n ≡ R.first.defs.struct n) ⊎ ((R.defs.struct n ≡ None) × (contains n R.used.structs ≡ false)) → R.defs.struct n ≡ Some d
       go (inl e) = e ∙ q
       go (inr e) = absurd (subst (Okay (always (λ t. Inside R.used t → ⊥))) ran (t_root R n d fs q e.1 s₀) end)
 

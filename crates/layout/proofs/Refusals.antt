@@ -1,25 +1,24 @@
 -- The numbers of refusals: reading refuses with 4 to 18 (`read_among`), building with 1 to 14 (`build_among`); so 0 is no refusal's number.
 -- Assumes nothing.
+use Rattle.std.specs.Prelude.{Option, Some, None}
 use Prim.Native.Nat.{ℕ, zero, suc, ◌+◌, ◌*◌, ◌≤◌}
 use native.Mathlib.Omega.{arith}
 use mathlib.Core.Bool.{Bool, true, false, cond, not, ◌||◌}
 use mathlib.Core.List.{◌∷◌, ◌++◌}
-use mathlib.Core.Option.{Option, none, some}
 use lib.Dec.{leb, ltb, eqb}
 use lib.ListN.{length}
 use Rattle.numbers.specs.Words.{Bytes, read_at}
 use Rattle.numbers.specs.Result.{Result, ok, refused, and_then, map_result, needed}
 use Rattle.value.specs.Rows.{row, Fields, fields_of}
-use Rattle.sheet.specs.Answer.{checked, number_of}
-use Rattle.sheet.specs.declared.Sheet.{Sheet}
-use Rattle.sheet.specs.declared.Sheet.TheVariants as X
+use Rattle.sheet.specs.Layout.{laid_out, ascii, rooted}
+use Rattle.sheet.proofs.Laws.{refusal}
 use Rattle.schema.specs.Sections.{Sections, section, end, broken, PSIN, PMAP, PSCH, sections}
 use Rattle.schema.specs.Defs.{Lookup, StructDef, winning, index_entries}
 use Rattle.schema.specs.Psch.{structure, enumeration, struct_here, enum_here, struct_at, enum_at, def_at, defs_from, psch_of, section_defs, defs_of, schema_of, outside}
 use Rattle.pso.specs.Reader.{Seen, head_of, count_of, blocks_at, pmap_of, with_data, with_map, with_defs, see_section, see_all, pso_from, nothing_seen, parse_pso}
 use Rattle.layout.specs.State.{State, Core, Env, Out, done, stop, thin, remark, pay, settle, on_core, bind, after, log_start, log_enum, use_struct, use_struct_c, use_enum, use_enum_c, add_item, add_item_c, with_charge, empty_state}
 use Rattle.layout.specs.Write.{root}
-use Rattle.layout.specs.Build.{refused_by, sheet_ok, work_need, cap_of, within, laid_from, layout_with, layout_of, layout, packed, fitted, build}
+use Rattle.layout.specs.Build.{sheet_ok, work_need, cap_of, within, laid_from, layout_with, layout_of, layout, packed, fitted, build}
 use Rattle.layout.proofs.Keep.{Claim, Okay, Keeps}
 use Rattle.layout.proofs.Writers.{Prims, k_root}
 
@@ -54,8 +53,8 @@ module _ (lo hi : ℕ) where
 
   a_needed : {A : Type 0} (o : Option A) (n : ℕ) → lo ≤ n → n ≤ hi → Among lo hi (needed o n)
   unfolding Among needed
-  a_needed (some a) n h g = tt
-  a_needed none n h g = (h, g)
+  a_needed (Some a) n h g = tt
+  a_needed None n h g = (h, g)
 
   a_wider : {A : Type 0} (low high : ℕ) (r : Result A) → lo ≤ low → high ≤ hi → Among low high r → Among lo hi r
   unfolding Among
@@ -130,13 +129,16 @@ read_among F =
 
 sheet_among : (T : Bytes) → Among 1 3 (sheet_ok T)
 unfolding sheet_ok
-sheet_among T = go (checked T)
+sheet_among T = rw (refusal T) (go (laid_out T) (ascii T) (rooted T))
   where
-    go : (s : Sheet) → Among 1 3 (refused_by (number_of s))
-    go X.Good = a_ok 1 3 _
-    go X.Broken = a_no 1 3 _ _ (omega arith) (omega arith)
-    go X.Text = a_no 1 3 _ _ (omega arith) (omega arith)
-    go X.Root = a_no 1 3 _ _ (omega arith) (omega arith)
+    passed : Result (Unit {0})
+    passed = ok tt
+
+    go : (a b c : Bool) → Among 1 3 (cond a (cond b (cond c passed (refused 3)) (refused 2)) (refused 1))
+    go false b c = a_no 1 3 _ _ (omega arith) (omega arith)
+    go true false c = a_no 1 3 _ _ (omega arith) (omega arith)
+    go true true false = a_no 1 3 _ _ (omega arith) (omega arith)
+    go true true true = a_ok 1 3 _
 
 -- writing: 8 to 11
 
@@ -149,8 +151,8 @@ paid s n false = (omega arith, omega arith)
 
 filed : {A : Type 0} (s : State) (o : Option (A × Core)) → Okay numbered (settle s 10 o)
 unfolding settle
-filed s none = (omega arith, omega arith)
-filed s (some r) = tt
+filed s None = (omega arith, omega arith)
+filed s (Some r) = tt
 
 number_prims : (E : Env) → Prims E numbered
 unfolding Keeps remark pay use_struct use_enum add_item bind after log_start log_enum on_core settle use_struct_c use_enum_c

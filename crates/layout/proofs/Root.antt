@@ -1,10 +1,10 @@
 -- The root is laid last, in the block whose number F says; so there is a block.
 -- Assumes nothing.
+use Rattle.std.specs.Prelude.{Option, Some, None}
 use Prim.Native.Nat.{ℕ, zero, suc, ◌+◌, ◌≤◌}
 use native.Mathlib.Omega.{arith}
 use mathlib.Core.Path.{◌≡◌, refl, sym, ◌∙◌, ap, subst}
 use mathlib.Core.List.{List, [], ◌∷◌, ◌++◌}
-use mathlib.Core.Option.{Option, none, some}
 use lib.ListN.{length}
 use Rattle.numbers.specs.Words.{Bytes}
 use Rattle.numbers.specs.Result.{nth}
@@ -53,7 +53,7 @@ root_ended E d fs s = last_after d.name (λ bs. add_item d.name bs) (λ bs t. en
 last_laid : (T S : Bytes) (work : ℕ) (l : Laid) (m : Made T S work l) → Last m.def.name l.pointer l.state.core
 last_laid T S work l m = subst (Ended m.def.name) m.ran (root_ended (env_of T m.schema work) m.def _ empty_state)
 
-nth_some : {A : Type 0} (l : List A) (k : ℕ) (a : A) → nth l k ≡ some a → 1 ≤ length l
+nth_some : {A : Type 0} (l : List A) (k : ℕ) (a : A) → nth l k ≡ Some a → 1 ≤ length l
 unfolding nth
 nth_some [] k a e = let z : ◌≡◌ {A = ℕ} 0 1 = cc in absurd (omega arith)
 nth_some (b ∷ l) k a e = omega arith
@@ -64,14 +64,14 @@ some_block T S work l m =
     let e = (last_laid T S work l m).added.lays in
     nth_some l.state.core.blocks e.before e.block e.filed
 
-place_named : (at k : ℕ) (bs : List Block) (b : Block) → nth bs k ≡ some b → (r : R.Block) × (nth (places_from at bs) k ≡ some r) × (r.name ≡ b.name)
+place_named : (at k : ℕ) (bs : List Block) (b : Block) → nth bs k ≡ Some b → (r : R.Block) × (nth (places_from at bs) k ≡ Some r) × (r.name ≡ b.name)
 unfolding places_from nth
 place_named at k [] b e = let z : ◌≡◌ {A = ℕ} 0 1 = cc in absurd (omega arith)
 place_named at zero (c ∷ bs) b e = (_, refl, ap name_in e)
   where
     name_in : Option Block → ℕ
-    name_in none = 0
-    name_in (some x) = x.name
+    name_in None = 0
+    name_in (Some x) = x.name
 place_named at (suc k) (c ∷ bs) b e = place_named (at + c.len) k bs b e
 
 -- an item that is laid last is the last of its block
@@ -101,7 +101,7 @@ root_last_law T S work l m =
       last = e.laid;
       pointer = sym e.pointer;
       number = ap pointer_block (sym e.pointer);
-      found = subst (λ n. numbered (places_from 16 c.blocks) n ≡ some b) (sym root) nb;
+      found = subst (λ n. numbered (places_from 16 c.blocks) n ≡ Some b) (sym root) nb;
       named = nm ∙ e.named ∙ (named_winning m.schema).structs (row T 0).a m.def m.def_is;
       ends = ap (λ n. n + length i.bytes) (says_start i a.formed a.most) ∙ ends_block c (tiled T S work l m) (last_laid T S work l m).earlier.items i k e.laid q ∙ sym (place_length 16 k c.blocks b nb);
     }

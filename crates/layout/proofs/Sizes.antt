@@ -1,11 +1,11 @@
 -- A structure has as many bytes as its definition says, once it is written and at the turn of each of its members: `sizes`.
 -- Assumes nothing.
+use Rattle.std.specs.Prelude.{Option, Some, None, Ok, Err}
 use Prim.Native.Nat.{ℕ, zero, suc, ◌+◌, ◌-◌, ◌≤◌}
 use native.Mathlib.Omega.{arith}
 use mathlib.Core.Path.{◌≡◌, refl, ◌∙◌, subst}
 use mathlib.Core.Bool.{Bool, true, false, cond}
 use mathlib.Core.List.{List, [], ◌∷◌, ◌++◌}
-use mathlib.Core.Option.{Option, none, some}
 use lib.Dec.{eqb}
 use lib.ListN.{length, take, length-append, length-take, length-replicate}
 use borrow.Author.Tests.{leb-true}
@@ -13,7 +13,8 @@ use Rattle.numbers.specs.Words.{Bytes, bytes_of, words, over, zeros}
 use Rattle.numbers.proofs.Bytes.{length_bytes, length_words}
 use Rattle.numbers.proofs.Laws.{length_over}
 use Rattle.value.specs.Rows.{Value, Row, Fields, field_named}
-use Rattle.coerce.specs.Numbers.{Fit, fits, unfit, float_text, map_fit, int_of, float_of, vec_of}
+use Rattle.coerce.specs.Numbers.{Fit, map_fit, int_of, float_of, vec_of}
+use Rattle.coerce.specs.declared.misfit.Misfit.TheVariants.{Unfit, FloatText}
 use Rattle.names.specs.Names.{Entries}
 use Rattle.schema.specs.Defs.{StructDef, Member}
 use Rattle.layout.specs.State.{State, Env, Out, done, stop, M, after, bind, ret, fail, if_m, opt_m, fit_m}
@@ -37,20 +38,20 @@ Gives P m = (s : State) → Answers P (m s)
 
 -- where a coercion fits, Q is known of what it gives
 abbrev Fitting : {X : Type 0} → (X → Type 0) → Fit X → Type 0
-Fitting Q (fits x) = Q x
-Fitting Q unfit = Unit {0}
-Fitting Q float_text = Unit {0}
+Fitting Q (Ok x) = Q x
+Fitting Q (Err Unfit) = Unit {0}
+Fitting Q (Err FloatText) = Unit {0}
 
 fitting_map : {X Y : Type 0} (Q : Y → Type 0) (f : X → Y) → ((x : X) → Q (f x)) → (o : Fit X) → Fitting Q (map_fit f o)
-fitting_map Q f h (fits x) = h x
-fitting_map Q f h unfit = tt
-fitting_map Q f h float_text = tt
+fitting_map Q f h (Ok x) = h x
+fitting_map Q f h (Err Unfit) = tt
+fitting_map Q f h (Err FloatText) = tt
 
 -- .. or nothing
 fitting_any : {X : Type 0} (o : Fit X) → Fitting (λ x. Unit {0}) o
-fitting_any (fits x) = tt
-fitting_any unfit = tt
-fitting_any float_text = tt
+fitting_any (Ok x) = tt
+fitting_any (Err Unfit) = tt
+fitting_any (Err FloatText) = tt
 
 module _ {A : Type 0} (P : A → Type 0) where
   g_ret : (a : A) → P a → Gives P (ret a)
@@ -87,14 +88,14 @@ module _ {A : Type 0} (P : A → Type 0) where
 
   g_opt : {X : Type 0} (o : Option X) (m : M A) (f : X → M A) → Gives P m → ((x : X) → Gives P (f x)) → Gives P (opt_m o m f)
   unfolding opt_m
-  g_opt none m f hm hf = hm
-  g_opt (some x) m f hm hf = hf x
+  g_opt None m f hm hf = hm
+  g_opt (Some x) m f hm hf = hf x
 
   g_fit : {X : Type 0} (Q : X → Type 0) (o : Fit X) (m : M A) (f : X → M A) → Fitting Q o → Gives P m → ((x : X) → Q x → Gives P (f x)) → Gives P (fit_m o m f)
   unfolding fit_m
-  g_fit Q (fits x) m f q hm hf = hf x q
-  g_fit Q unfit m f q hm hf = hm
-  g_fit Q float_text m f q hm hf = g_fail 11
+  g_fit Q (Ok x) m f q hm hf = hf x q
+  g_fit Q (Err Unfit) m f q hm hf = hm
+  g_fit Q (Err FloatText) m f q hm hf = g_fail 11
 
 -- a buffer of n bytes
 abbrev Long : ℕ → Bytes → Type 0

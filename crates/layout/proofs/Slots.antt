@@ -1,11 +1,11 @@
 -- The four bytes of a slot are the pointer of the item that was laid for it: `slots`.
 -- Assumes nothing.
+use Rattle.std.specs.Prelude.{Some}
 use Prim.Native.Nat.{ℕ, ◌+◌, ◌≤◌}
 use native.Mathlib.Omega.{arith}
 use mathlib.Core.Path.{◌≡◌, refl, ◌∙◌}
 use mathlib.Core.Bool.{Bool, true, false, ◌||◌}
 use mathlib.Core.List.{[], ◌∷◌, ◌++◌}
-use mathlib.Core.Option.{some}
 use mathlib.Core.Logic.{◌⊎◌, inl, inr}
 use lib.Dec.{eqb, leb}
 use lib.ListN.{length, length-replicate}
@@ -63,7 +63,7 @@ module _ (E : Env) (fuel left : ℕ) (d : StructDef) (e : Member) (v : Value) (b
       rw (k, not_fixed e.subtype p, p)
       (o_need E d e buf e.offset (slot_size e.subtype) _ (λ h. o_opt buf e.offset (str_of E.sheet (row_of E v)) _ _ (o_wrong E d e v buf e.offset) (λ t. o_text E e.subtype t buf e.offset (omega (arith, h, l)))) s)
 
-  array_only_law : (x : Member) → Kinds.kind_of e.type ≡ Kinds.array → array_info d e ≡ some x → by_pointer e.subtype x.subtype ≡ true → PutsOnly s.core buf e.offset (step E w d e v buf s)
+  array_only_law : (x : Member) → Kinds.kind_of e.type ≡ Kinds.array → array_info d e ≡ Some x → by_pointer e.subtype x.subtype ≡ true → PutsOnly s.core buf e.offset (step E w d e v buf s)
   unfolding member array_member array_of opt_m if_m
   array_only_law x k i p = rw (k, i, p) (go (is_array_value E (row_of E v)))
     where
@@ -131,7 +131,7 @@ module _ (E : Env) where
   text_elements_law sub r s t q z =
       rw q (first (text_slot E sub t (zeros (slot_size sub)) 0 s) (text_slot_law E sub t (zeros (slot_size sub)) 0 s (omega (arith, length-replicate {A = ℕ} (slot_size sub) 0)) z))
     where
-      first : (o : Out Bytes) → Points 1 (t ++ (0 ∷ [])) 0 s.core o → PointsFirst 1 (t ++ (0 ∷ [])) s.core (after o (λ bs. ret (some bs)))
+      first : (o : Out Bytes) → Points 1 (t ++ (0 ∷ [])) 0 s.core o → PointsFirst 1 (t ++ (0 ∷ [])) s.core (after o (λ bs. ret (Some bs)))
       first (done b u) x = x
       first (stop n es) x = tt
 

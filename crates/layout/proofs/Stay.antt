@@ -1,9 +1,9 @@
 -- What was laid stays: items are only added, blocks keep their numbers and names: `laid_stays_law`.
 -- Assumes nothing.
+use Rattle.std.specs.Prelude.{Option, Some}
 use Prim.Native.Nat.{ℕ}
 use mathlib.Core.Path.{◌≡◌}
 use mathlib.Core.List.{List}
-use mathlib.Core.Option.{Option, some}
 use Rattle.numbers.specs.Words.{Bytes}
 use Rattle.value.specs.Rows.{Fields}
 use Rattle.schema.specs.Defs.{StructDef, Member}
@@ -70,7 +70,7 @@ module _ (E : Env) where
   stay_write : (a : Core) (fuel left : ℕ) (d : StructDef) (fs : Fields) → Keeps (standing a) (write E fuel left d fs)
   stay_write a fuel left d fs = k_write E (standing a) (stay_prims E a) fuel left d fs (any_start E a d)
 
-  stay_inner : (a : Core) (fuel left n : ℕ) (d : StructDef) (fs : Fields) → E.defs.struct n ≡ some d → Keeps (standing a) (write E fuel left d fs)
+  stay_inner : (a : Core) (fuel left n : ℕ) (d : StructDef) (fs : Fields) → E.defs.struct n ≡ Some d → Keeps (standing a) (write E fuel left d fs)
   stay_inner a fuel left n d fs q = stay_write a fuel left d fs
 
   stay_element : (a : Core) (fuel left : ℕ) (d : StructDef) (e : Member) (i : StructDef) (r : ℕ) → Keeps (standing a) (struct_element E (write E fuel left) d e i r)

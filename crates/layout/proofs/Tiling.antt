@@ -1,11 +1,11 @@
 -- The items of each block tile it, in order of laying.
 -- Assumes nothing.
+use Rattle.std.specs.Prelude.{Some}
 use Prim.Native.Nat.{ℕ, zero, suc, ◌+◌, ◌≤◌, ◌<◌}
 use native.Mathlib.Omega.{arith}
 use mathlib.Core.Path.{◌≡◌, refl, ap, subst}
 use mathlib.Core.Bool.{Bool, true, false, cond, ◌&&◌}
 use mathlib.Core.List.{List, [], ◌∷◌, ◌++◌, append-nil}
-use mathlib.Core.Option.{some}
 use lib.Dec.{eqb, leb}
 use lib.ListN.{length}
 use borrow.Author.Tests.{eqb-true, eqb-false, leb-true}
@@ -118,7 +118,7 @@ unfolding items_in len_at
 tiled T S work l m = reached T S work l m (on_core Any Tiled) (tiled_prims (env_of T m.schema work)) (record { tiles = λ k. refl; within = tt; formed = tt })
 
 -- of every run of the root that comes to an end
-pub root_tiled : (E : Env) (name : ℕ) (d : StructDef) (fs : Fields) (pointer : ℕ) (s : State) → E.defs.struct name ≡ some d → root E d fs empty_state ≡ done pointer s → Tiled s.core
+pub root_tiled : (E : Env) (name : ℕ) (d : StructDef) (fs : Fields) (pointer : ℕ) (s : State) → E.defs.struct name ≡ Some d → root E d fs empty_state ≡ done pointer s → Tiled s.core
 unfolding Keeps items_in len_at
 root_tiled E name d fs pointer s e r =
     subst (Okay (on_core Any Tiled)) r (k_root E (on_core Any Tiled) (tiled_prims E) d fs ((tiled_prims E).found name d e).0 empty_state (record { tiles = λ k. refl; within = tt; formed = tt }))

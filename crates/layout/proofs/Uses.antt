@@ -1,15 +1,15 @@
 -- The file carries each used definition exactly once, as the schema's winning one, and no other.
 -- Assumes nothing.
+use Rattle.std.specs.Prelude.{Option, Some, None, is_some}
 use Prim.Native.Nat.{ℕ, suc, ◌+◌}
 use native.Mathlib.Omega.{arith}
 use mathlib.Core.Path.{◌≡◌, refl, sym, ◌∙◌, ap}
 use mathlib.Core.Bool.{Bool, true, false, cond, ◌&&◌, ◌||◌, false≢true}
 use mathlib.Core.List.{List, [], ◌∷◌, ◌++◌, map}
-use mathlib.Core.Option.{Option, none, some}
 use lib.Dec.{eqb, leb}
 use lib.ListN.{length}
 use borrow.Author.Tests.{eqb-true, eq-eqb}
-use Rattle.numbers.specs.Result.{given, is_some, Every}
+use Rattle.numbers.specs.Result.{given, Every}
 use Rattle.numbers.specs.Words.{Bytes}
 use Rattle.schema.specs.Defs.{struct_name, enum_name, winning}
 use Rattle.layout.specs.State.{State, Env, Spot, spot, pointer_at, done, stop, bind, after, remark, pay, with_charge, contains, insert, log_start, log_enum, use_struct, use_struct_c, use_enum, use_enum_c, add_item, add_item_c, file, settle}
@@ -149,7 +149,7 @@ logged_prims E =
 
 -- what names stand for
 
-module _ {A : Type 0} (name_of : A → ℕ) (f : ℕ → Option A) (named : (n : ℕ) (d : A) → f n ≡ some d → name_of d ≡ n) where
+module _ {A : Type 0} (name_of : A → ℕ) (f : ℕ → Option A) (named : (n : ℕ) (d : A) → f n ≡ Some d → name_of d ≡ n) where
   pub names_found : (ns : List ℕ) → ((x : ℕ) → contains x ns ≡ true → is_some (f x) ≡ true) → map name_of (found f ns) ≡ ns
   unfolding found contains
   names_found [] h = refl
@@ -160,17 +160,17 @@ module _ {A : Type 0} (name_of : A → ℕ) (f : ℕ → Option A) (named : (n :
       later false c e = e
 
       go : (o : Option A) → f n ≡ o → is_some o ≡ true → map name_of (found f ns) ≡ ns → map name_of (cons_option o (found f ns)) ≡ n ∷ ns
-      go none q i e = let z : ◌≡◌ {A = ℕ} 0 1 = cc in absurd (omega arith)
-      go (some d) q i e = rw (named n d q, e)
+      go None q i e = let z : ◌≡◌ {A = ℕ} 0 1 = cc in absurd (omega arith)
+      go (Some d) q i e = rw (named n d q, e)
 
-  pub defs_found : (ns : List ℕ) → Every (λ d. f (name_of d) ≡ some d) (found f ns)
+  pub defs_found : (ns : List ℕ) → Every (λ d. f (name_of d) ≡ Some d) (found f ns)
   unfolding found
   defs_found [] = tt
   defs_found (n ∷ ns) = go (f n) refl (defs_found ns)
     where
-      go : (o : Option A) → f n ≡ o → Every (λ d. f (name_of d) ≡ some d) (found f ns) → Every (λ d. f (name_of d) ≡ some d) (cons_option o (found f ns))
-      go none q e = e
-      go (some d) q e = (ap f (named n d q) ∙ q, e)
+      go : (o : Option A) → f n ≡ o → Every (λ d. f (name_of d) ≡ Some d) (found f ns) → Every (λ d. f (name_of d) ≡ Some d) (cons_option o (found f ns))
+      go None q e = e
+      go (Some d) q e = (ap f (named n d q) ∙ q, e)
 
 -- of every layout
 

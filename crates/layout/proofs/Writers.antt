@@ -1,16 +1,15 @@
 -- Every writer keeps a claim that the primitive actions keep: one induction for all claims.
 -- Items are filed in blocks with the names of definitions and with the numbers up to 200 of raw storage.
 -- Assumes nothing.
+use Rattle.std.specs.Prelude.{Option, Some, is_some}
 use Prim.Native.Nat.{ℕ, zero, suc, ◌-◌, ◌≤◌}
 use native.Mathlib.Omega.{arith}
 use mathlib.Core.Bool.{Bool, true, false, cond}
 use mathlib.Core.Path.{◌≡◌}
 use mathlib.Core.List.{List, [], ◌∷◌}
-use mathlib.Core.Option.{Option, some}
 use lib.Dec.{leb, eqb}
 use lib.ListN.{length}
 use Rattle.numbers.specs.Words.{Bytes}
-use Rattle.numbers.specs.Result.{is_some}
 use Rattle.value.specs.Rows.{Value, Row, Fields}
 use Rattle.coerce.specs.Numbers.{Fit}
 use Rattle.names.specs.Names.{Entries}
@@ -28,7 +27,7 @@ small_cond N false x y p q = q
 
 -- a name stands for the definition
 abbrev pub Defined : Env → StructDef → Type 0
-Defined E d = (n : ℕ) × (E.defs.struct n ≡ some d)
+Defined E d = (n : ℕ) × (E.defs.struct n ≡ Some d)
 
 -- the primitive actions keep the claim C, where structures of the definitions `starts` are started
 pub record Prims (E : Env) (C : Claim) : Type 1 where
@@ -39,12 +38,12 @@ pub record Prims (E : Env) (C : Claim) : Type 1 where
   pub struct_keeps : (d : StructDef) → starts d → Keeps C (use_struct d.name)
   pub enum_keeps : (n : ℕ) → is_some (E.defs.enum n) ≡ true → Keeps C (use_enum n)
   pub add_keeps : (n : ℕ) (bs : Bytes) → C.files n → Keeps C (add_item n bs)
-  pub found : (n : ℕ) (d : StructDef) → E.defs.struct n ≡ some d → starts d × C.files n
+  pub found : (n : ℕ) (d : StructDef) → E.defs.struct n ≡ Some d → starts d × C.files n
   pub named : (d : StructDef) → starts d → C.files d.name
   pub small : (n : ℕ) → n ≤ 200 → C.files n
 
 module _ (E : Env) (C : Claim) (h : Prims E C) where
-  add_named : (n : ℕ) (d : StructDef) (bs : Bytes) → E.defs.struct n ≡ some d → Keeps C (add_item d.name bs)
+  add_named : (n : ℕ) (d : StructDef) (bs : Bytes) → E.defs.struct n ≡ Some d → Keeps C (add_item d.name bs)
   add_named n d bs q = h.add_keeps d.name bs (h.named d (h.found n d q).0)
 
   add_text : (bs : Bytes) → Keeps C (add_item 1 bs)
@@ -128,7 +127,7 @@ module _ (E : Env) (C : Claim) (h : Prims E C) where
   unfolding laid_run
   k_laid_run m n off buf hm = l_bind C m _ _ hm (k_ret C buf) (λ r p. k_bind C _ _ (h.add_keeps r.block r.bytes p) (λ q. k_ret C _))
 
-  module _ (w : Writer) (hw : (n : ℕ) (i : StructDef) (fs : Fields) → E.defs.struct n ≡ some i → Keeps C (w i fs)) where
+  module _ (w : Writer) (hw : (n : ℕ) (i : StructDef) (fs : Fields) → E.defs.struct n ≡ Some i → Keeps C (w i fs)) where
     pub k_pointed : (d : StructDef) (e : Member) (ref : ℕ) (v : Row) → Keeps C (pointed E w d e ref v)
     unfolding pointed
     k_pointed d e ref v = search (along, k_says, add_named, hw)
@@ -137,7 +136,7 @@ module _ (E : Env) (C : Claim) (h : Prims E C) where
     unfolding pointer_element
     k_pointer_element d e ref r = search (along, k_pointed)
 
-    pub k_struct_element : (d : StructDef) (e : Member) (n : ℕ) (i : StructDef) (r : ℕ) → E.defs.struct n ≡ some i → Keeps C (struct_element E w d e i r)
+    pub k_struct_element : (d : StructDef) (e : Member) (n : ℕ) (i : StructDef) (r : ℕ) → E.defs.struct n ≡ Some i → Keeps C (struct_element E w d e i r)
     unfolding struct_element
     k_struct_element d e n i r q = search (along, k_says, hw n i)
 
@@ -226,7 +225,7 @@ module _ (E : Env) (C : Claim) (h : Prims E C) where
     unfolding array_member array_of
     k_array_member d e v buf = search (along, k_leaves, k_wrong, k_pointed_array, k_embedded_array)
 
-    pub k_pair_element : (n : ℕ) (i : StructDef) (p : ℕ × ℕ) → E.defs.struct n ≡ some i → Keeps C (pair_element E w i p)
+    pub k_pair_element : (n : ℕ) (i : StructDef) (p : ℕ × ℕ) → E.defs.struct n ≡ Some i → Keeps C (pair_element E w i p)
     unfolding pair_element
     k_pair_element n i p q = search (along, hw n i)
 

@@ -1,6 +1,6 @@
 -- What is true of a layout's state at every time: what its laws keep, and what writing the file relies on.
-use Rattle.std.specs.Prelude.{ℕ, zero, suc, ◌+◌, ◌^◌, ◌≤◌, ◌<◌, ◌≡◌, true, List, [], ◌∷◌, length}
-use Rattle.numbers.specs.Result.{is_some, Every}
+use Rattle.std.specs.Prelude.{ℕ, zero, suc, ◌+◌, ◌^◌, ◌≤◌, ◌<◌, ◌≡◌, true, List, [], ◌∷◌, length, is_some}
+use Rattle.numbers.specs.Result.{Every}
 use Rattle.schema.specs.Defs.{Lookup}
 use Rattle.layout.specs.State.{Item, Block, Core, contains, pointer_to}
 use Rattle.layout.specs.Assemble.{items_in}

@@ -1,6 +1,5 @@
 -- The file: PSIN, PMAP and PSCH, in that order.
-use Rattle.std.specs.Prelude.{ℕ, zero, suc, ◌+◌, ◌*◌, ◌%◌, cond, List, [], ◌∷◌, ◌++◌, map, eqb, length}
-use Rattle.std.proofs.Math.Option.{Option, none, some}
+use Rattle.std.specs.Prelude.{ℕ, zero, suc, ◌+◌, ◌*◌, ◌%◌, cond, List, [], ◌∷◌, ◌++◌, map, eqb, length, Option, Some, None}
 use Rattle.numbers.specs.Words.{Bytes, bytes_of, words}
 use Rattle.schema.specs.Sections.{PSIN, PMAP, PSCH}
 use Rattle.schema.specs.Defs.{Schema, Lookup, StructDef, EnumDef, Member}
@@ -76,8 +75,8 @@ psch_bytes rs =
 
 -- in front, if it is there
 abbrev pub cons_option : {A : Type 0} → Option A → List A → List A
-cons_option none l = l
-cons_option (some a) l = a ∷ l
+cons_option None l = l
+cons_option (Some a) l = a ∷ l
 
 -- what a name stands for, of each name that stands for something
 unfoldable pub found : {A : Type 0} → (ℕ → Option A) → List ℕ → List A

@@ -1,10 +1,10 @@
 -- Building: the order of refusals, and what stands in the lent buffers after the call.
 use Rattle.std.specs.Prelude.{ℕ, ◌+◌, ◌-◌, ◌*◌, ◌/◌, min, cond, ◌||◌, List, ◌++◌, ltb, length, drop, replicate}
-use Rattle.std.proofs.Math.Option.{Option, none, some}
 use Rattle.numbers.specs.Words.{Bytes, zeros}
 use Rattle.numbers.specs.Result.{Result, ok, refused, and_then, needed}
 use Rattle.value.specs.Rows.{row, fields_of}
-use Rattle.sheet.specs.Answer.{checked, number_of}
+use Rattle.numbers.specs.Refusal.{answer_of}
+use Rattle.sheet.specs.Answer.{checked}
 use Rattle.schema.specs.Defs.{Schema, Lookup, StructDef, winning, index_entries}
 use Rattle.schema.specs.Psch.{schema_of}
 use Rattle.layout.specs.State.{Remark, State, empty_state, Env, Out, done, stop, thin}
@@ -22,14 +22,9 @@ pub record Built : Type 0 where
   pub file : Bytes
   pub remarks : List Remark
 
--- a refusal where there is a number
-abbrev pub refused_by : Option ℕ → Result (Unit {0})
-refused_by none = ok tt
-refused_by (some n) = refused n
-
 -- refusals "1, 2, 3"
 unfoldable pub sheet_ok : Bytes → Result (Unit {0})
-sheet_ok T = refused_by (number_of (checked T))
+sheet_ok T = answer_of (checked T)
 
 -- 12: "work is shorter than 65,536 + 8 × i"
 abbrev pub work_need : ℕ → ℕ

@@ -1,7 +1,6 @@
 -- Demand 3, as statements: what holds of every pack that is built, for all sheets, schema files and buffer lengths.
 -- There is no premise "plain" and no map is lost: docs/REBUILD.md says why.
-use Rattle.std.specs.Prelude.{ℕ, ◌+◌, ◌/◌, ◌%◌, ◌≤◌, ◌<◌, ◌≡◌, Bool, true, false, ◌||◌, List, [], ◌∷◌, ◌++◌, map, eqb, leb, length, take, drop}
-use Rattle.std.proofs.Math.Option.{some}
+use Rattle.std.specs.Prelude.{ℕ, ◌+◌, ◌/◌, ◌%◌, ◌≤◌, ◌<◌, ◌≡◌, Bool, true, false, ◌||◌, List, [], ◌∷◌, ◌++◌, map, eqb, leb, length, take, drop, Some}
 use Rattle.numbers.specs.Words.{Bytes, Octets, words, over}
 use Rattle.numbers.specs.Result.{ok, Every}
 use Rattle.value.specs.Rows.{Value, Map, Null, row, fields_of, children_of}
@@ -61,7 +60,7 @@ pub record Stands (P : R.Pso) (i : Item) : Type 0 where
   pub block : R.Block
   pub number : pointer_block i.pointer ≡ i.block
   pub start : pointer_start i.pointer ≡ i.start
-  pub found : numbered P.blocks (pointer_block i.pointer) ≡ some block
+  pub found : numbered P.blocks (pointer_block i.pointer) ≡ Some block
   pub bytes : take (length i.bytes) (drop (block.place + pointer_start i.pointer) P.data') ≡ i.bytes
 
 -- "The root is laid last; it need not start its block.": it is the last item, it has the pointer that the layout answers, F's root number is the block
@@ -73,7 +72,7 @@ pub record RootLast (T : Bytes) (l : Laid) (P : R.Pso) : Type 0 where
   pub last : l.state.core.items ≡ earlier ++ (item ∷ [])
   pub pointer : l.pointer ≡ item.pointer
   pub number : P.root ≡ pointer_block item.pointer
-  pub found : numbered P.blocks P.root ≡ some block
+  pub found : numbered P.blocks P.root ≡ Some block
   pub named : block.name ≡ (row T 0).a
   pub ends : pointer_start item.pointer + length item.bytes ≡ block.length'
 
@@ -93,8 +92,8 @@ count x (y ∷ l) = tally (eqb y x) + count x l
 pub record CarriesUsed (L : Lookup) (u : Uses) (K : Schema) : Type 0 where
   pub structs : (x : ℕ) → count x (map struct_name K.structs) ≡ tally (contains x u.started)
   pub enums : (x : ℕ) → count x (map enum_name K.enums) ≡ tally (contains x u.enums)
-  pub struct_defs : Every (λ d. L.struct d.name ≡ some d) K.structs
-  pub enum_defs : Every (λ d. L.enum d.name ≡ some d) K.enums
+  pub struct_defs : Every (λ d. L.struct d.name ≡ Some d) K.structs
+  pub enum_defs : Every (λ d. L.enum d.name ≡ Some d) K.enums
 
 -- the rebuild
 
@@ -126,7 +125,7 @@ pub record Demand3 (T S : Bytes) (work out records : ℕ) (F : Bytes) : Type 0 w
   pub schema_gives : schema_of S ≡ ok schema
   -- the layout is this run: the root's definition is written with the root's values, from nothing
   pub root_def : StructDef
-  pub root_found : (winning schema).struct (row T 0).a ≡ some root_def
+  pub root_found : (winning schema).struct (row T 0).a ≡ Some root_def
   pub ran : root (env_of T schema work) root_def (fields_of T (row T 0)) empty_state ≡ done laid.pointer laid.state
   -- the reader accepts F
   pub read : R.Pso
@@ -139,7 +138,7 @@ pub record Demand3 (T S : Bytes) (work out records : ℕ) (F : Bytes) : Type 0 w
   -- "Block 1 starts at byte 16 of PSIN, each further block where the one before ends, and the last ends with PSIN."
   pub blocks_tile : BlocksTile 16 read.blocks (length read.data')
   -- "So do a block's items, in order of laying, from its first byte to its last"
-  pub items_tile : (k : ℕ) (b : R.Block) → numbered read.blocks k ≡ some b → ItemsTile 0 (items_in k laid.state.core.items) b.length'
+  pub items_tile : (k : ℕ) (b : R.Block) → numbered read.blocks k ≡ Some b → ItemsTile 0 (items_in k laid.state.core.items) b.length'
   -- "an item's bytes stand at its block's place plus its pointer's start", and the pointer is that of its block and start
   pub items_stand : Every (Stands read) laid.state.core.items
   -- "Its pointer is the number formed when it is laid": wherever the layout puts a pointer, the four bytes put are the pointer of the item just laid for it

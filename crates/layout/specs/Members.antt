@@ -1,8 +1,8 @@
 -- Members that lead to no structure: scalars, texts, enums and flags.
 -- d is the structure's definition, e the member, v its value, buf the structure's bytes so far, off a place in them.
-use Rattle.std.specs.Prelude.{ℕ, ◌+◌, ◌-◌, ◌/◌, ◌%◌, Bool, cond, ◌&&◌, ◌||◌, [], ◌∷◌, ◌++◌, leb, eqb, length, take}
+use Rattle.std.specs.Prelude.{ℕ, ◌+◌, ◌-◌, ◌/◌, ◌%◌, Bool, cond, ◌&&◌, ◌||◌, [], ◌∷◌, ◌++◌, leb, eqb, length, take, is_some, unwrap_or, option_map}
 use Rattle.numbers.specs.Words.{Bytes, bytes_of, over, is_empty}
-use Rattle.numbers.specs.Result.{is_some, map_option, or_value, nth}
+use Rattle.numbers.specs.Result.{nth}
 use Rattle.value.specs.Rows.{Value, Row, value_row}
 use Rattle.coerce.specs.Numbers.{Fit, str_of}
 use Rattle.names.specs.Names.{Entries, hash_of, enum_value, flags_bits}
@@ -12,7 +12,7 @@ use Rattle.layout.specs.Kinds.{Scalar, size_of, scalar_bytes, type_number}
 
 -- the reference of the definition's i-th member, whatever its name; 0 where there is none
 unfoldable pub reference_at : StructDef → ℕ → ℕ
-reference_at d i = or_value (map_option (λ m. m.reference) (nth d.members i)) 0
+reference_at d i = unwrap_or (option_map (λ m. m.reference) (nth d.members i)) 0
 
 -- the low 16 bits
 abbrev pub low16 : ℕ → ℕ
@@ -36,7 +36,7 @@ put_counted buf off p n = over (put_pointer buf off p) (off + 8) (bytes_of 2 n +
 
 -- the entries of the enum h; none where there is no such enum
 abbrev pub entries_of : Lookup → ℕ → Entries
-entries_of L h = or_value (map_option (λ x. x.entries) (L.enum h)) []
+entries_of L h = unwrap_or (option_map (λ x. x.entries) (L.enum h)) []
 
 -- a text by pointer: subtypes 1, 2 and 3
 abbrev pub is_pointer_text : ℕ → Bool

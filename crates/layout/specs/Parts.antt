@@ -1,6 +1,5 @@
 -- What the parts of a layout make: a structure's length, what its bytes and a run's bytes are put together from, and that what was laid stays.
-use Rattle.std.specs.Prelude.{ℕ, suc, ◌+◌, ◌-◌, ◌≡◌, true, false, List, ◌∷◌, ◌++◌, eqb, leb, length, take}
-use Rattle.std.proofs.Math.Option.{Option, some}
+use Rattle.std.specs.Prelude.{ℕ, suc, ◌+◌, ◌-◌, ◌≡◌, true, false, List, ◌∷◌, ◌++◌, eqb, leb, length, take, Option, Some}
 use Rattle.numbers.specs.Words.{Bytes, over}
 use Rattle.value.specs.Rows.{Value, Fields, row, fields_of, field_named, children_of}
 use Rattle.schema.specs.Defs.{StructDef, Member}
@@ -35,12 +34,12 @@ pub record Passes (E : Env) (w : Writer) (d : StructDef) (fs : Fields) (front : 
 pub record Contains {X : Type 0} (f : X → M (Option Bytes)) (front : List X) (x : X) (behind : List X) (s : State) (bs : Bytes) (u : State) : Type 0 where
   pub first : Bytes
   pub state : State
-  pub begun : elements f front s ≡ done (some first) state
+  pub begun : elements f front s ≡ done (Some first) state
   pub own : Bytes
   pub after : State
-  pub stepped : f x state ≡ done (some own) after
+  pub stepped : f x state ≡ done (Some own) after
   pub last : Bytes
-  pub rest : elements f behind after ≡ done (some last) u
+  pub rest : elements f behind after ≡ done (Some last) u
   pub joined : bs ≡ first ++ (own ++ last)
 
 -- what a member's own bytes are, where a structure or a run stands in them: w writes the structures that members lead to
@@ -49,7 +48,7 @@ module _ (E : Env) (w : Writer) where
   abbrev pub Inline : Type 0
   Inline =
       (d : StructDef) (e : Member) (v : Value) (buf : Bytes) (s : State) (i : StructDef) (bs : Bytes) (t : State)
-      → Kinds.kind_of e.type ≡ Kinds.structure → eqb e.subtype 0 ≡ true → is_struct_value E (row_of E v) ≡ true → E.defs.struct e.reference ≡ some i
+      → Kinds.kind_of e.type ≡ Kinds.structure → eqb e.subtype 0 ≡ true → is_struct_value E (row_of E v) ≡ true → E.defs.struct e.reference ≡ Some i
       → leb (e.offset + i.size) d.size ≡ true → w i (fields_of E.sheet (row_of E v)) s ≡ done bs t
       → step E w d e v buf s ≡ done (over buf e.offset bs) t
 
@@ -57,27 +56,27 @@ module _ (E : Env) (w : Writer) where
   abbrev pub Embedded : Type 0
   Embedded =
       (d : StructDef) (e : Member) (v : Value) (buf : Bytes) (s : State) (x : Member) (r : Run) (t : State)
-      → Kinds.kind_of e.type ≡ Kinds.array → array_info d e ≡ some x → is_array_value E (row_of E v) ≡ true → by_pointer e.subtype x.subtype ≡ false
-      → element_run E w d e x (Kinds.kind_of x.type) (take (high16 e.reference) (children_of (row_of E v))) s ≡ done (some r) t
+      → Kinds.kind_of e.type ≡ Kinds.array → array_info d e ≡ Some x → is_array_value E (row_of E v) ≡ true → by_pointer e.subtype x.subtype ≡ false
+      → element_run E w d e x (Kinds.kind_of x.type) (take (high16 e.reference) (children_of (row_of E v))) s ≡ done (Some r) t
       → leb (e.offset + length r.bytes) d.size ≡ true
       → step E w d e v buf s ≡ done (over buf e.offset r.bytes) t
 
   -- a run that is kept is its elements' bytes, in a block of the run's name. Which elements: texts by pointer; structures by pointer; structures of the definition i
   pub record RunParts : Type 0 where
-    pub kept : (stride block : ℕ) (f : ℕ → M (Option Bytes)) (rs : List ℕ) (s : State) (r : Run) (u : State) → run E stride block f rs s ≡ done (some r) u
-        → (r.block ≡ block) × ((t : State) × (elements f rs t ≡ done (some r.bytes) u))
+    pub kept : (stride block : ℕ) (f : ℕ → M (Option Bytes)) (rs : List ℕ) (s : State) (r : Run) (u : State) → run E stride block f rs s ≡ done (Some r) u
+        → (r.block ≡ block) × ((t : State) × (elements f rs t ≡ done (Some r.bytes) u))
     pub kept_pairs : (stride block : ℕ) (f : ℕ × ℕ → M (Option Bytes)) (ps : List (ℕ × ℕ)) (s : State) (r : Run) (u : State)
-        → run E stride block f ps s ≡ done (some r) u → (r.block ≡ block) × ((t : State) × (elements f ps t ≡ done (some r.bytes) u))
+        → run E stride block f ps s ≡ done (Some r) u → (r.block ≡ block) × ((t : State) × (elements f ps t ≡ done (Some r.bytes) u))
     pub texts : (d : StructDef) (e x : Member) (rs : List ℕ) (s : State) → is_pointer_text x.subtype ≡ true
         → element_run E w d e x Kinds.text rs s ≡ run E (slot_size x.subtype) (slot_block x.subtype) (text_element E x.subtype) rs s
     pub pointers : (d : StructDef) (e x : Member) (rs : List ℕ) (s : State) → eqb x.subtype 3 ≡ true
         → element_run E w d e x Kinds.structure rs s ≡ run E 8 12 (pointer_element E w d e x.reference) rs s
     pub structures : (d : StructDef) (e x : Member) (rs : List ℕ) (s : State) (i : StructDef) → eqb x.subtype 3 ≡ false
-        → E.defs.struct x.reference ≡ some i → element_run E w d e x Kinds.structure rs s ≡ run E i.size i.name (struct_element E w d e i) rs s
+        → E.defs.struct x.reference ≡ Some i → element_run E w d e x Kinds.structure rs s ≡ run E i.size i.name (struct_element E w d e i) rs s
     -- the element, or the pair, is the structure that w writes
-    pub element : (d : StructDef) (e : Member) (i : StructDef) (r : ℕ) (s : State) (bs : Bytes) (u : State) → struct_element E w d e i r s ≡ done (some bs) u
+    pub element : (d : StructDef) (e : Member) (i : StructDef) (r : ℕ) (s : State) (bs : Bytes) (u : State) → struct_element E w d e i r s ≡ done (Some bs) u
         → (t : State) × (w i (fields_of E.sheet (row E.sheet r)) t ≡ done bs u)
-    pub pair : (i : StructDef) (p : ℕ × ℕ) (s : State) (bs : Bytes) (u : State) → pair_element E w i p s ≡ done (some bs) u → w i (pair_fields i p) s ≡ done bs u
+    pub pair : (i : StructDef) (p : ℕ × ℕ) (s : State) (bs : Bytes) (u : State) → pair_element E w i p s ≡ done (Some bs) u → w i (pair_fields i p) s ≡ done bs u
 
 -- "Members are written in definition order": a structure's bytes are what its members' steps leave, one after the other, from zeros on.
 -- A run's bytes, of texts by pointer, of pointers, of structures or of pairs, are its elements' in order
@@ -86,9 +85,9 @@ pub record Joined (E : Env) : Type 0 where
       → (front : List Member) (e : Member) (behind : List Member) → d.members ≡ front ++ (e ∷ behind) → eqb e.name ARRAYINFO ≡ false
       → Passes E (write E fuel (left - 1)) d fs front e behind bs u
   pub elements_in : (f : ℕ → M (Option Bytes)) (front : List ℕ) (r : ℕ) (behind : List ℕ) (s : State) (bs : Bytes) (u : State)
-      → elements f (front ++ (r ∷ behind)) s ≡ done (some bs) u → Contains f front r behind s bs u
+      → elements f (front ++ (r ∷ behind)) s ≡ done (Some bs) u → Contains f front r behind s bs u
   pub pairs_in : (f : ℕ × ℕ → M (Option Bytes)) (front : List (ℕ × ℕ)) (p : ℕ × ℕ) (behind : List (ℕ × ℕ)) (s : State) (bs : Bytes) (u : State)
-      → elements f (front ++ (p ∷ behind)) s ≡ done (some bs) u → Contains f front p behind s bs u
+      → elements f (front ++ (p ∷ behind)) s ≡ done (Some bs) u → Contains f front p behind s bs u
   pub inline : (fuel left : ℕ) → Inline E (write E fuel left)
   pub embedded : (fuel left : ℕ) → Embedded E (write E fuel left)
   pub runs : (fuel left : ℕ) → RunParts E (write E fuel left)

@@ -1,9 +1,7 @@
 -- Runs: the elements of an array, and structures reached by pointer.
 -- w writes a structure one deeper; d and e are the structure and its array member, x what ARRAYINFO says of the elements, r a row, rs the elements' rows.
-use Rattle.std.specs.Prelude.{ℕ, ◌+◌, ◌-◌, ◌*◌, cond, ◌||◌, List, [], ◌∷◌, ◌++◌, leb, eqb, length, take}
-use Rattle.std.proofs.Math.Option.{Option, none, some}
+use Rattle.std.specs.Prelude.{ℕ, ◌+◌, ◌-◌, ◌*◌, cond, ◌||◌, List, [], ◌∷◌, ◌++◌, leb, eqb, length, take, Option, Some, None, is_some, unwrap_or, option_map}
 use Rattle.numbers.specs.Words.{Bytes, bytes_of, padded, zeros}
-use Rattle.numbers.specs.Result.{is_some, or_value, map_option}
 use Rattle.value.specs.Rows.{Row, row, Fields, fields_of, Struct, Null}
 use Rattle.coerce.specs.Numbers.{str_of}
 use Rattle.names.specs.Names.{hash_of, enum_value}
@@ -23,11 +21,11 @@ pub record Run : Type 0 where
 
 -- the elements one after the other; the first that fails ends it
 unfoldable pub elements : {X : Type 0} → (X → M (Option Bytes)) → List X → M (Option Bytes)
-elements f [] = ret (some [])
+elements f [] = ret (Some [])
 elements f (x ∷ xs) =
     bind (f x) λ o.
-    opt_m o (ret none) λ b.
-    bind (elements f xs) λ p. opt_m p (ret none) λ bs. ret (some (b ++ bs))
+    opt_m o (ret None) λ b.
+    bind (elements f xs) λ p. opt_m p (ret None) λ bs. ret (Some (b ++ bs))
 
 -- the name of the block that a run of scalars goes to
 abbrev pub scalar_block : Kinds.Scalar → ℕ → ℕ
@@ -47,14 +45,14 @@ slot_block sub = cond (eqb sub 3) 200 12
 
 -- a remark that stops a run
 unfoldable pub stops : StructDef → Member → ℕ → ℕ → M (Option Run)
-stops d e kind detail = bind (says d e kind detail) λ _. ret none
+stops d e kind detail = bind (says d e kind detail) λ _. ret None
 
 module _ (E : Env) where
   -- "each .. array run, map run .. costs 16 plus its full length (.. a run's as if no element failed), charged before its first byte"
   unfoldable pub run : {X : Type 0} → ℕ → ℕ → (X → M (Option Bytes)) → List X → M (Option Run)
   run stride block f xs =
       bind (pay E (16 + stride * length xs)) λ _.
-      bind (elements f xs) λ o. ret (map_option (λ bs. record { bytes = bs; block = block }) o)
+      bind (elements f xs) λ o. ret (option_map (λ bs. record { bytes = bs; block = block }) o)
 
   -- by pointer the row's own type counts where the schema has a structure of that name, else the reference
   unfoldable pub own_type : Row → ℕ → ℕ
@@ -63,44 +61,44 @@ module _ (E : Env) where
   -- a structure by pointer: its pointer, or remark 4: "no structure definition (hash)"
   unfoldable pub pointed : Writer → StructDef → Member → ℕ → Row → M (Option ℕ)
   pointed w d e ref v =
-      opt_m (E.defs.struct (own_type v ref)) (bind (says d e 4 (own_type v ref)) λ _. ret none) λ i.
-      bind (w i (fields_of E.sheet v)) λ bs. bind (add_item i.name bs) λ p. ret (some p)
+      opt_m (E.defs.struct (own_type v ref)) (bind (says d e 4 (own_type v ref)) λ _. ret None) λ i.
+      bind (w i (fields_of E.sheet v)) λ bs. bind (add_item i.name bs) λ p. ret (Some p)
 
   -- a pointer in 8 bytes; what is no Struct leaves them zero, without remark
   unfoldable pub pointer_element : Writer → StructDef → Member → ℕ → ℕ → M (Option Bytes)
   pointer_element w d e ref r =
       if_m (eqb (row E.sheet r).kind Struct)
-      (bind (pointed w d e ref (row E.sheet r)) λ o. ret (some (put_pointer (zeros 8) 0 (or_value o 0))))
-      (ret (some (zeros 8)))
+      (bind (pointed w d e ref (row E.sheet r)) λ o. ret (Some (put_pointer (zeros 8) 0 (unwrap_or o 0))))
+      (ret (Some (zeros 8)))
 
   -- remark 9: "element no structure", which is then written without values
   unfoldable pub struct_element : Writer → StructDef → Member → StructDef → ℕ → M (Option Bytes)
   struct_element w d e i r =
       bind (if_m (eqb (row E.sheet r).kind Struct || eqb (row E.sheet r).kind Null) (ret tt) (says d e 9 0)) λ _.
-      bind (w i (fields_of E.sheet (row E.sheet r))) λ bs. ret (some bs)
+      bind (w i (fields_of E.sheet (row E.sheet r))) λ bs. ret (Some bs)
 
   -- a text by pointer; what is no text leaves its bytes zero
   unfoldable pub text_element : ℕ → ℕ → M (Option Bytes)
   text_element sub r =
-      bind (text_slot E sub (or_value (str_of E.sheet (row E.sheet r)) []) (zeros (slot_size sub)) 0) λ bs. ret (some bs)
+      bind (text_slot E sub (unwrap_or (str_of E.sheet (row E.sheet r)) []) (zeros (slot_size sub)) 0) λ bs. ret (Some bs)
 
   -- a text in len bytes; what is no text drops the run
   unfoldable pub fixed_element : ℕ → ℕ → M (Option Bytes)
-  fixed_element len r = ret (map_option (λ t. padded len (take (len - 1) t)) (str_of E.sheet (row E.sheet r)))
+  fixed_element len r = ret (option_map (λ t. padded len (take (len - 1) t)) (str_of E.sheet (row E.sheet r)))
 
   -- a hash; what is none drops the run
   unfoldable pub hash_element : ℕ → M (Option Bytes)
-  hash_element r = ret (map_option (bytes_of 4) (hash_of E.sheet (row E.sheet r)))
+  hash_element r = ret (option_map (bytes_of 4) (hash_of E.sheet (row E.sheet r)))
 
   -- an enum value, in 4 bytes whatever the subtype; what is none drops the run
   unfoldable pub enum_element : ℕ → ℕ → M (Option Bytes)
   enum_element h r =
-      fit_m (enum_value E.sheet (entries_of E.defs h) (row E.sheet r)) (ret none) λ x. ret (some (bytes_of 4 x))
+      fit_m (enum_value E.sheet (entries_of E.defs h) (row E.sheet r)) (ret None) λ x. ret (Some (bytes_of 4 x))
 
   -- a scalar; one bad element drops the run
   unfoldable pub scalar_element : Kinds.Scalar → ℕ → M (Option Bytes)
   scalar_element s r =
-      fit_m (Kinds.scalar_bytes E.sheet s (row E.sheet r)) (ret none) λ bs. ret (some (padded (scalar_stride s) bs))
+      fit_m (Kinds.scalar_bytes E.sheet s (row E.sheet r)) (ret None) λ bs. ret (Some (padded (scalar_stride s) bs))
 
   -- remark 8: "no element definition (hash)"
   unfoldable pub struct_run : Writer → StructDef → Member → Member → List ℕ → M (Option Run)

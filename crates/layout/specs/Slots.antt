@@ -1,10 +1,9 @@
 -- Slots: where the layout puts a pointer. "Its pointer is the number formed when it is laid", and that number is what the four bytes of a slot say.
 -- A step that lays an item and puts its pointer into bytes puts the pointer of just that item: a text's, a run's, a map's, a structure's; and no other pointer
 -- is put there. These laws speak of the slot's four bytes; what structures and runs are put together from stands in Parts.
-use Rattle.std.specs.Prelude.{ℕ, suc, ◌+◌, ◌≡◌, true, false, ◌||◌, List, [], ◌∷◌, ◌++◌, map, ◌⊎◌, eqb, leb}
-use Rattle.std.proofs.Math.Option.{Option, none, some}
+use Rattle.std.specs.Prelude.{ℕ, suc, ◌+◌, ◌≡◌, true, false, ◌||◌, List, [], ◌∷◌, ◌++◌, map, ◌⊎◌, eqb, leb, Option, Some, None, unwrap_or}
 use Rattle.numbers.specs.Words.{Bytes, read_at, words, over, is_empty, zeros}
-use Rattle.numbers.specs.Result.{nth, or_value}
+use Rattle.numbers.specs.Result.{nth}
 use Rattle.value.specs.Rows.{Value, Fields, row, fields_of, field_named, children_of, Struct, Map, Null}
 use Rattle.coerce.specs.Numbers.{str_of}
 use Rattle.schema.specs.Defs.{StructDef, Member}
@@ -31,7 +30,7 @@ pub record Lays (n : ℕ) (bs : Bytes) (p : ℕ) (c c' : Core) : Type 0 where
   pub laid : c'.items ≡ c.items ++ (item ∷ [])
   pub bytes : item.bytes ≡ bs
   pub number : item.block ≡ suc before
-  pub filed : nth c'.blocks before ≡ some block
+  pub filed : nth c'.blocks before ≡ Some block
   pub named : block.name ≡ n
   pub pointer : item.pointer ≡ p
   pub stays : Further c c'
@@ -43,8 +42,8 @@ Points n bs off c (stop k es) = Unit {0}
 
 -- the same of an element of a run: the pointer is its first four bytes, and such an element never drops its run
 abbrev pub PointsFirst : ℕ → Bytes → Core → Out (Option Bytes) → Type 0
-PointsFirst n bs c (done (some b) s) = Lays n bs (read_at 4 b 0) c s.core
-PointsFirst n bs c (done none s) = ⊥
+PointsFirst n bs c (done (Some b) s) = Lays n bs (read_at 4 b 0) c s.core
+PointsFirst n bs c (done None s) = ⊥
 PointsFirst n bs c (stop k es) = Unit {0}
 
 -- the same of the root, whose pointer is answered
@@ -77,14 +76,14 @@ module _ (E : Env) (w : Writer) (d : StructDef) (e : Member) (v : Value) (buf : 
   abbrev pub TextSlot : Type 0
   TextSlot =
       (t : Bytes) → Kinds.kind_of e.type ≡ Kinds.text → is_pointer_text e.subtype ≡ true → leb (e.offset + slot_size e.subtype) d.size ≡ true
-      → str_of E.sheet (row_of E v) ≡ some t → is_empty t ≡ false → Points 1 (t ++ (0 ∷ [])) e.offset s.core step
+      → str_of E.sheet (row_of E v) ≡ Some t → is_empty t ≡ false → Points 1 (t ++ (0 ∷ [])) e.offset s.core step
 
   -- an array by pointer, whose 16 bytes fit, with items: its run r, if it is kept; t is the state after its elements
   abbrev pub ArraySlot : Type 0
   ArraySlot =
-      (x : Member) (r : Run) (t : State) → Kinds.kind_of e.type ≡ Kinds.array → array_info d e ≡ some x → is_array_value E (row_of E v) ≡ true
+      (x : Member) (r : Run) (t : State) → Kinds.kind_of e.type ≡ Kinds.array → array_info d e ≡ Some x → is_array_value E (row_of E v) ≡ true
       → by_pointer e.subtype x.subtype ≡ true → leb (e.offset + 16) d.size ≡ true → is_empty (children_of (row_of E v)) ≡ false
-      → element_run E w d e x (Kinds.kind_of x.type) (children_of (row_of E v)) s ≡ done (some r) t
+      → element_run E w d e x (Kinds.kind_of x.type) (children_of (row_of E v)) s ≡ done (Some r) t
       → Points r.block r.bytes e.offset t.core step
 
   -- a supported map, whose 24 bytes fit, with pairs: its run of pairs, structures of the definition i. The pointer stands 8 bytes behind the map's start
@@ -92,8 +91,8 @@ module _ (E : Env) (w : Writer) (d : StructDef) (e : Member) (v : Value) (buf : 
   MapSlot =
       (i : StructDef) (r : Run) (t : State) → Kinds.kind_of e.type ≡ Kinds.map → eqb e.subtype 1 ≡ true → leb (e.offset + 24) d.size ≡ true
       → (eqb (row_of E v).kind Map || eqb (row_of E v).kind Null) ≡ true → is_empty (pairs_of (children_of (row_of E v))) ≡ false
-      → E.defs.struct (reference_at d (low16 e.reference)) ≡ some i
-      → run E i.size (reference_at d (low16 e.reference)) (pair_element E w i) (pairs_of (children_of (row_of E v))) s ≡ done (some r) t
+      → E.defs.struct (reference_at d (low16 e.reference)) ≡ Some i
+      → run E i.size (reference_at d (low16 e.reference)) (pair_element E w i) (pairs_of (children_of (row_of E v))) s ≡ done (Some r) t
       → Points r.block r.bytes (e.offset + 8) t.core step
 
   -- a structure by pointer, whose 8 bytes fit: the Struct is written by w as a structure of the definition i, of the row's own type where the schema has it, else
@@ -101,7 +100,7 @@ module _ (E : Env) (w : Writer) (d : StructDef) (e : Member) (v : Value) (buf : 
   abbrev pub StructSlot : Type 0
   StructSlot =
       (i : StructDef) (bs : Bytes) (t : State) → Kinds.kind_of e.type ≡ Kinds.structure → eqb e.subtype 0 ≡ false → leb (e.offset + 8) d.size ≡ true
-      → eqb (row_of E v).kind Struct ≡ true → E.defs.struct (own_type E (row_of E v) e.reference) ≡ some i
+      → eqb (row_of E v).kind Struct ≡ true → E.defs.struct (own_type E (row_of E v) e.reference) ≡ Some i
       → w i (fields_of E.sheet (row_of E v)) s ≡ done bs t
       → Points i.name bs e.offset t.core step
 
@@ -113,7 +112,7 @@ module _ (E : Env) (w : Writer) (d : StructDef) (e : Member) (v : Value) (buf : 
     pub map : MapSlot
     pub structure : StructSlot
     pub text_only : Kinds.kind_of e.type ≡ Kinds.text → is_pointer_text e.subtype ≡ true → PutsOnly s.core buf e.offset step
-    pub array_only : (x : Member) → Kinds.kind_of e.type ≡ Kinds.array → array_info d e ≡ some x → by_pointer e.subtype x.subtype ≡ true → PutsOnly s.core buf e.offset step
+    pub array_only : (x : Member) → Kinds.kind_of e.type ≡ Kinds.array → array_info d e ≡ Some x → by_pointer e.subtype x.subtype ≡ true → PutsOnly s.core buf e.offset step
     pub map_only : Kinds.kind_of e.type ≡ Kinds.map
         → PutsOnly s.core buf (e.offset + 8) step ⊎ PutsOnly s.core (over buf e.offset (words (0x01000000 ∷ []))) (e.offset + 8) step
     pub structure_only : Kinds.kind_of e.type ≡ Kinds.structure → eqb e.subtype 0 ≡ false → PutsOnly s.core buf e.offset step
@@ -124,20 +123,20 @@ module _ (E : Env) where
   -- a text by pointer that is not empty
   abbrev pub TextElements : Type 0
   TextElements =
-      (sub r : ℕ) (s : State) (t : Bytes) → str_of E.sheet (row E.sheet r) ≡ some t → is_empty t ≡ false
+      (sub r : ℕ) (s : State) (t : Bytes) → str_of E.sheet (row E.sheet r) ≡ Some t → is_empty t ≡ false
       → PointsFirst 1 (t ++ (0 ∷ [])) s.core (text_element E sub r s)
 
   -- an empty text, or what is no text, has a slot of zeros
   abbrev pub EmptyTexts : Type 0
   EmptyTexts =
-      (sub r : ℕ) (s : State) → is_empty (or_value (str_of E.sheet (row E.sheet r)) []) ≡ true
-      → text_element E sub r s ≡ done (some (zeros (slot_size sub))) s
+      (sub r : ℕ) (s : State) → is_empty (unwrap_or (str_of E.sheet (row E.sheet r)) []) ≡ true
+      → text_element E sub r s ≡ done (Some (zeros (slot_size sub))) s
 
   -- a structure by pointer: the Struct row r is written by w as a structure of the definition i
   abbrev pub StructElements : Type 0
   StructElements =
       (w : Writer) (d : StructDef) (e : Member) (ref r : ℕ) (s : State) (i : StructDef) (bs : Bytes) (t : State)
-      → eqb (row E.sheet r).kind Struct ≡ true → E.defs.struct (own_type E (row E.sheet r) ref) ≡ some i
+      → eqb (row E.sheet r).kind Struct ≡ true → E.defs.struct (own_type E (row E.sheet r) ref) ≡ Some i
       → w i (fields_of E.sheet (row E.sheet r)) s ≡ done bs t
       → PointsFirst i.name bs t.core (pointer_element E w d e ref r s)
 
@@ -145,10 +144,10 @@ module _ (E : Env) where
   abbrev pub EmptyElements : Type 0
   EmptyElements =
       (w : Writer) (d : StructDef) (e : Member) (ref r : ℕ) (s : State)
-      → (eqb (row E.sheet r).kind Struct ≡ false → pointer_element E w d e ref r s ≡ done (some (zeros 8)) s)
-      × (eqb (row E.sheet r).kind Struct ≡ true → E.defs.struct (own_type E (row E.sheet r) ref) ≡ none
+      → (eqb (row E.sheet r).kind Struct ≡ false → pointer_element E w d e ref r s ≡ done (Some (zeros 8)) s)
+      × (eqb (row E.sheet r).kind Struct ≡ true → E.defs.struct (own_type E (row E.sheet r) ref) ≡ None
       → pointer_element E w d e ref r s
-      ≡ done (some (zeros 8)) (with_remark (record { kind = 4; structure = d.name; member = e.name; detail = own_type E (row E.sheet r) ref }) s))
+      ≡ done (Some (zeros 8)) (with_remark (record { kind = 4; structure = d.name; member = e.name; detail = own_type E (row E.sheet r) ref }) s))
 
 -- the slots of every member whose turn comes, at any depth, of every text and structure element, and the root, which is written and then laid
 pub record Slots (E : Env) : Type 0 where

@@ -1,7 +1,6 @@
 -- "A structure leads to its members and a member to further structures, inline, by pointer, in runs and in map pairs."
 -- w writes a structure one deeper; d is the structure's definition, e the member, v its value, buf the structure's bytes so far.
-use Rattle.std.specs.Prelude.{ℕ, zero, suc, ◌+◌, ◌-◌, Bool, true, false, cond, ◌&&◌, ◌||◌, List, [], ◌∷◌, ltb, eqb, length, take}
-use Rattle.std.proofs.Math.Option.{Option, some}
+use Rattle.std.specs.Prelude.{ℕ, zero, suc, ◌+◌, ◌-◌, Bool, true, false, cond, ◌&&◌, ◌||◌, List, [], ◌∷◌, ltb, eqb, length, take, Option, Some}
 use Rattle.numbers.specs.Words.{Bytes, words, over, is_empty, zeros}
 use Rattle.numbers.specs.Result.{nth}
 use Rattle.value.specs.Rows.{Value, Row, Fields, fields_of, field_named, children_of, text_of, Null, Str, Array, Map, Struct}
@@ -101,7 +100,7 @@ module _ (E : Env) where
 
   -- a pair is a structure of the definition i
   unfoldable pub pair_element : Writer → StructDef → ℕ × ℕ → M (Option Bytes)
-  pair_element w i p = bind (w i (pair_fields i p)) λ bs. ret (some bs)
+  pair_element w i p = bind (w i (pair_fields i p)) λ bs. ret (Some bs)
 
   -- a map's pairs; without pairs it ends here, else remark 7: "no pair definition (hash)"
   unfoldable pub map_of : Writer → StructDef → Member → ℕ → List (ℕ × ℕ) → Bytes → M Bytes

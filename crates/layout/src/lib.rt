@@ -3,7 +3,7 @@
 
 // A remark: what is wrong with a member of a structure.
 #[repr(C)]
-#[derive(Clone, Copy)]
+#[derive(Clone, Copy, Debug, PartialEq, Eq)]
 pub struct Remark {
     pub kind: u32,
     pub structure: u32,

@@ -1,10 +1,10 @@
 -- Lists: what stands at a number, the first of a name, a part of the front. Assumes nothing.
+use Rattle.std.specs.Prelude.{Some, None}
 use Prim.Native.Nat.{ℕ, zero, suc, ◌+◌, ◌<◌}
 use native.Mathlib.Omega.{arith}
 use mathlib.Core.Path.{◌≡◌, refl, ap}
 use mathlib.Core.Bool.{Bool, true, false}
 use mathlib.Core.List.{List, [], ◌∷◌, ◌++◌, map}
-use mathlib.Core.Option.{none, some}
 use lib.Dec.{eqb}
 use lib.ListN.{length, take, drop}
 use borrow.Author.Tests.{eqb-true}
@@ -24,7 +24,7 @@ part (suc n) (suc p) [] B h = absurd (omega (arith, h))
 part (suc n) (suc p) (a ∷ A) B h = part (suc n) p A B h
 
 -- by number
-pub nth_past : (l : List R.Block) (k : ℕ) → length l < suc k → nth l k ≡ none
+pub nth_past : (l : List R.Block) (k : ℕ) → length l < suc k → nth l k ≡ None
 unfolding nth
 nth_past [] k h = refl
 nth_past (b ∷ l) zero h = absurd (omega (arith, h))
@@ -45,7 +45,7 @@ module _ {A : Type 0} (name_of : A → ℕ) (Q : A → Type 0) (x : ℕ) where
   -- what is found: it has the name, and Q holds of it
   pub record First (l : List A) : Type 0 where
     pub value : A
-    pub is : first_named name_of x l ≡ some value
+    pub is : first_named name_of x l ≡ Some value
     pub named : name_of value ≡ x
     pub holds : Q value
 
@@ -62,11 +62,11 @@ module _ {A : Type 0} (name_of : A → ℕ) (Q : A → Type 0) (x : ℕ) where
       go f true e k = record { value = d; is = rw (e, first_named) refl; named = eqb-true (name_of d) x e; holds = h.0 }
       go f false e k = passed_over d l e (f (omega (arith, k)))
 
-  pub first_none : (l : List A) → count x (map name_of l) ≡ 0 → first_named name_of x l ≡ none
+  pub first_none : (l : List A) → count x (map name_of l) ≡ 0 → first_named name_of x l ≡ None
   unfolding first_named count
   first_none [] c = refl
   first_none (d ∷ l) c = go (first_none l) (eqb (name_of d) x) refl c
     where
-      go : (count x (map name_of l) ≡ 0 → first_named name_of x l ≡ none) → (b : Bool) → eqb (name_of d) x ≡ b → tally b + count x (map name_of l) ≡ 0 → first_named name_of x (d ∷ l) ≡ none
+      go : (count x (map name_of l) ≡ 0 → first_named name_of x l ≡ None) → (b : Bool) → eqb (name_of d) x ≡ b → tally b + count x (map name_of l) ≡ 0 → first_named name_of x (d ∷ l) ≡ None
       go f true e k = absurd (omega (arith, k))
       go f false e k = rw (e, first_named) (f (omega (arith, k)))

@@ -1,9 +1,9 @@
 -- By name, a pack gives the used definitions and no others. Assumes nothing.
+use Rattle.std.specs.Prelude.{Some}
 use Prim.Native.Nat.{ℕ}
 use mathlib.Core.Path.{◌≡◌, sym, ap, ◌∙◌, subst}
 use mathlib.Core.Bool.{Bool, true, false}
 use mathlib.Core.List.{map}
-use mathlib.Core.Option.{some}
 use Rattle.numbers.specs.Words.{Bytes}
 use Rattle.numbers.specs.Result.{ok}
 use Rattle.schema.specs.Defs.{Lookup, struct_name, enum_name, leading}
@@ -22,9 +22,9 @@ module _ (F : Bytes) (p : Pso) (e : parse_pso F ≡ ok p) (x : ℕ) (L : Lookup)
     where
       go : (b : Bool) → count x (map struct_name p.schema.structs) ≡ tally b → StructBy L F x b
       go true k =
-          let r = first_some struct_name (λ d. L.struct d.name ≡ some d) x p.schema.structs c.struct_defs k in
+          let r = first_some struct_name (λ d. L.struct d.name ≡ Some d) x p.schema.structs c.struct_defs k in
           (r.value, ap L.struct (sym r.named) ∙ r.holds, subst (StructIs F (structure_of F x)) r.is (struct_found_law F p e x))
-      go false k = subst (StructIs F (structure_of F x)) (first_none struct_name (λ d. L.struct d.name ≡ some d) x p.schema.structs k) (struct_found_law F p e x)
+      go false k = subst (StructIs F (structure_of F x)) (first_none struct_name (λ d. L.struct d.name ≡ Some d) x p.schema.structs k) (struct_found_law F p e x)
 
   pub enum_by : EnumBy L F x (contains x u.enums)
   unfolding leading
@@ -32,6 +32,6 @@ module _ (F : Bytes) (p : Pso) (e : parse_pso F ≡ ok p) (x : ℕ) (L : Lookup)
     where
       go : (b : Bool) → count x (map enum_name p.schema.enums) ≡ tally b → EnumBy L F x b
       go true k =
-          let r = first_some enum_name (λ d. L.enum d.name ≡ some d) x p.schema.enums c.enum_defs k in
+          let r = first_some enum_name (λ d. L.enum d.name ≡ Some d) x p.schema.enums c.enum_defs k in
           (r.value, ap L.enum (sym r.named) ∙ r.holds, subst (EnumIs F (enum_of F x)) r.is (enum_found_law F p e x))
-      go false k = subst (EnumIs F (enum_of F x)) (first_none enum_name (λ d. L.enum d.name ≡ some d) x p.schema.enums k) (enum_found_law F p e x)
+      go false k = subst (EnumIs F (enum_of F x)) (first_none enum_name (λ d. L.enum d.name ≡ Some d) x p.schema.enums k) (enum_found_law F p e x)

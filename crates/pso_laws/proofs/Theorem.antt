@@ -1,9 +1,9 @@
 -- Every pack that is built, as the library's functions answer of it: `every_built_pack`. Assumes nothing.
+use Rattle.std.specs.Prelude.{Option, Some, None}
 use Prim.Native.Nat.{zero, ℕ, suc, ◌+◌, ◌<◌}
 use native.Mathlib.Omega.{arith}
 use mathlib.Core.Path.{◌≡◌, refl, sym, ap, ◌∙◌, subst}
 use mathlib.Core.List.{List, [], ◌∷◌, ◌++◌}
-use mathlib.Core.Option.{Option, none, some}
 use lib.ListN.{length, take, drop, take-append-drop}
 use Rattle.numbers.specs.Words.{Bytes}
 use Rattle.numbers.specs.Result.{Result, ok, refused, nth}
@@ -33,19 +33,19 @@ module _ (F : Bytes) (p : R.Pso) (e : R.parse_pso F ≡ ok p) where
   block : (k : ℕ) → block_of F k ≡ block_is (numbered p.blocks k)
   block k = ap (λ (l : List R.Block). block_is (numbered l k)) (sym (parsed F p e).blocks)
 
-  block_is_law : (k : ℕ) (b : R.Block) → numbered p.blocks k ≡ some b → block_of F k ≡ block_is (some b)
+  block_is_law : (k : ℕ) (b : R.Block) → numbered p.blocks k ≡ Some b → block_of F k ≡ block_is (Some b)
   block_is_law k b q = block k ∙ ap block_is q
 
   -- what is found under a number is a block of the file
-  found_is_law : (k : ℕ) (Q : E.Block → Type 0) → ((b : R.Block) → numbered p.blocks k ≡ some b → Q (block_is (some b))) → (block_of F k).found ≡ 1 → Q (block_of F k)
+  found_is_law : (k : ℕ) (Q : E.Block → Type 0) → ((b : R.Block) → numbered p.blocks k ≡ Some b → Q (block_is (Some b))) → (block_of F k).found ≡ 1 → Q (block_of F k)
   found_is_law k Q f h = subst Q (sym g) (go (numbered p.blocks k) refl (ap (λ (b : E.Block). b.found) (sym g) ∙ h))
     where
       g : block_of F k ≡ block_is (numbered p.blocks k)
       g = block k
 
       go : (o : Option R.Block) → numbered p.blocks k ≡ o → (block_is o).found ≡ 1 → Q (block_is o)
-      go (some b) q h = f b q
-      go none q h = absurd (omega (arith, h))
+      go (Some b) q h = f b q
+      go None q h = absurd (omega (arith, h))
 
   past_last : (k : ℕ) → length p.blocks < k → (block_of F k).found ≡ 0
   past_last zero h = elim h [ ]
@@ -89,7 +89,7 @@ module _ (T S : Bytes) (work out records : ℕ) (F : Bytes) (d : D.Demand3 T S w
       let x = d.root_last in
       let e = reading F d.read d.accepts in
       let n : (reading_of F).root ≡ d.read.root = ap (λ (q : Reading). q.root) e in
-      let b : block_of F (reading_of F).root ≡ block_is (some x.block) = ap (block_of F) n ∙ block_is_law F d.read d.accepts d.read.root x.block x.found in
+      let b : block_of F (reading_of F).root ≡ block_is (Some x.block) = ap (block_of F) n ∙ block_is_law F d.read d.accepts d.read.root x.block x.found in
       record {
         earlier = x.earlier;
         root = x.item;

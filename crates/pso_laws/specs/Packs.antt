@@ -1,6 +1,5 @@
 -- Every pack that is built, as the library's functions answer of it (crates/sandvurek/specs/Exports): demand 3 as one statement, `EveryBuiltPack`.
-use Rattle.std.specs.Prelude.{ℕ, suc, ◌+◌, ◌≤◌, ◌<◌, ◌≡◌, Bool, true, false, List, [], ◌∷◌, ◌++◌, length, take, drop}
-use Rattle.std.proofs.Math.Option.{some}
+use Rattle.std.specs.Prelude.{ℕ, suc, ◌+◌, ◌≤◌, ◌<◌, ◌≡◌, Bool, true, false, List, [], ◌∷◌, ◌++◌, length, take, drop, Some}
 use Rattle.numbers.specs.Words.{Bytes, Octets}
 use Rattle.numbers.specs.Result.{ok, Every}
 use Rattle.value.specs.Rows.{row, fields_of}
@@ -46,12 +45,12 @@ pub record RootEnds (T F : Bytes) (l : Laid) : Type 0 where
 
 -- a used name leads to "S's winning one", another to none
 abbrev pub StructBy : Lookup → Bytes → ℕ → Bool → Type 0
-StructBy L F name true = (d : StructDef) × (L.struct name ≡ some d) × IsStruct F (structure_of F name) d
+StructBy L F name true = (d : StructDef) × (L.struct name ≡ Some d) × IsStruct F (structure_of F name) d
 StructBy L F name false = (structure_of F name).found ≡ 0
 
 -- .. of enums
 abbrev pub EnumBy : Lookup → Bytes → ℕ → Bool → Type 0
-EnumBy L F name true = (d : EnumDef) × (L.enum name ≡ some d) × IsEnum F (enum_of F name) d
+EnumBy L F name true = (d : EnumDef) × (L.enum name ≡ Some d) × IsEnum F (enum_of F name) d
 EnumBy L F name false = (enum_of F name).found ≡ 0
 
 -- the call with F as schema file, with work and output as long as before: with as many records as it has distinct remarks it gives F, byte for byte; with fewer it is 14
@@ -73,7 +72,7 @@ pub record Pack (T S : Bytes) (work out records : ℕ) (F : Bytes) : Type 0 wher
   pub schema_gives : schema_of S ≡ ok schema
   -- the layout is this run: the root's definition is written with the root's values, from nothing
   pub root_def : StructDef
-  pub root_found : (winning schema).struct (row T 0).a ≡ some root_def
+  pub root_found : (winning schema).struct (row T 0).a ≡ Some root_def
   pub ran : root (env_of T schema work) root_def (fields_of T (row T 0)) empty_state ≡ done laid.pointer laid.state
   -- the reader accepts F
   pub accepts : (reading_of F).code ≡ 0
