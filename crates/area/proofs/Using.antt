@@ -1,4 +1,5 @@
 -- A definition is used. Assumes nothing.
+use Rattle.std.specs.Prelude.{is_some}
 use mathlib.Core.Path.{◌≡◌, refl, sym, ap, ◌∙◌}
 use mathlib.Core.Bool.{Bool, true, false}
 use mathlib.Core.List.{List, [], ◌∷◌, ◌++◌}
@@ -7,7 +8,6 @@ use native.Mathlib.Omega.{arith}
 use lib.ListN.{length, length-append, length-map}
 use borrow.Author.Tests.{lt-leb}
 use Rattle.numbers.specs.Words.{Bytes, words, bytes_of, over, Stands, Below}
-use Rattle.numbers.specs.Result.{is_some}
 use Rattle.numbers.proofs.Bytes.{length_words, every_append}
 use Rattle.numbers.proofs.Laws.{length_bytes}
 use Rattle.schema.specs.Defs.{Schema, struct_name, enum_name, winning, index_entries}

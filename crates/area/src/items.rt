@@ -5,28 +5,23 @@ ghost use Rattle.area.specs.Posts.{Safe, Finds, blocks_with, laid_is, Lays, Lays
 
 use crate::stack::shift;
 use crate::{Laid, Progress, Round, Spot, write_four, write_two};
-use numbers::words::{copy, read_u32};
+use numbers::words::{copy, read};
 
 // The first of the n blocks that has the name and room for `need` bytes; else behind the last.
 fn spot(work: &[u8], n: usize, name: u32, need: usize) -> Spot
     requires { (n ≤ 4095) × (need < 2 ^ 40) }
     ensures { Finds work.now n name need result }
 {
-    let mut k = 0;
-    while k < n {
-        if read_u32(work, 8 * k) != name {
-            k += 1;
-            continue;
+    for k in 0..n {
+        if read::<u32>(work, 8 * k) == name {
+            let len = read::<u32>(work, 8 * k + 4) as usize;
+            if len + need <= 0x100000 {
+                return Spot {
+                    before: k,
+                    start: len,
+                };
+            }
         }
-        let len = read_u32(work, 8 * k + 4) as usize;
-        if 0x100000 < len + need {
-            k += 1;
-            continue;
-        }
-        return Spot {
-            before: k,
-            start: len,
-        };
     }
     Spot {
         before: n,

@@ -4,7 +4,7 @@
 ghost use Rattle.std.specs.Prelude.{◌≡◌, [], ◌∷◌, ◌+◌, ◌≤◌, length};
 ghost use Rattle.numbers.specs.Words.{words, over};
 
-use numbers::words::write;
+use numbers::words::write_u32;
 
 pub mod items;
 pub mod notes;
@@ -53,8 +53,8 @@ pub fn write_two(s: &mut [u8], at: usize, a: u32, b: u32)
     requires { at + 8 ≤ length s.old }
     ensures { s.new ≡ over s.old at (words (a ∷ b ∷ [])) }
 {
-    write(s, at, 4, a as u64);
-    write(s, at + 4, 4, b as u64);
+    write_u32(s, at, a);
+    write_u32(s, at + 4, b);
 }
 
 // Four numbers, one behind the other.

@@ -6,17 +6,17 @@ ghost use Rattle.area.specs.Posts.{Safe, Notes};
 
 use crate::{Progress, Round, write_four};
 use layout::Remark;
-use numbers::words::read_u32;
+use numbers::words::read;
 
 // The remark row at a place.
 pub fn row_at(work: &[u8], at: usize) -> Remark
     requires { at < 2 ^ 62 }
     ensures { result ≡ row_in work.now at }
 {
-    let kind = read_u32(work, at);
-    let structure = read_u32(work, at + 4);
-    let member = read_u32(work, at + 8);
-    let detail = read_u32(work, at + 12);
+    let kind = read::<u32>(work, at);
+    let structure = read::<u32>(work, at + 4);
+    let member = read::<u32>(work, at + 8);
+    let detail = read::<u32>(work, at + 12);
     Remark {
         kind,
         structure,
@@ -29,10 +29,7 @@ pub fn row_at(work: &[u8], at: usize) -> Remark
 pub fn same(q: Remark, r: Remark) -> bool
     ensures { result ≡ State.same_remark q r }
 {
-    (q.kind == r.kind)
-        & (q.structure == r.structure)
-        & (q.member == r.member)
-        & (q.detail == r.detail)
+    q == r
 }
 
 // Whether one of the first n rows holds the remark.
@@ -40,13 +37,10 @@ fn remarked(work: &[u8], n: usize, r: Remark) -> bool
     requires { n ≤ 1024 }
     ensures { result ≡ State.remarked r (rows_in work.now 32768 n) }
 {
-    let mut k = 0;
-    while k < n {
-        let q = row_at(work, 32768 + 16 * k);
-        if same(q, r) {
+    for k in 0..n {
+        if same(row_at(work, 32768 + 16 * k), r) {
             return true;
         }
-        k += 1;
     }
     false
 }
@@ -61,28 +55,21 @@ pub fn note(work: &mut [u8], round: Round, p: Progress, r: Remark) -> Progress
     if p.next < p.seen {
         return q;
     }
-    if p.seen < round.skip {
-        q.next = p.next + 1;
-        return q;
-    }
     let n = p.rows;
-    if remarked(work, n, r) {
-        q.next = p.next + 1;
-        return q;
+    if p.seen >= round.skip && !remarked(work, n, r) {
+        if 1024 <= n {
+            return q;
+        }
+        write_four(
+            work,
+            32768 + 16 * n,
+            r.kind,
+            r.structure,
+            r.member,
+            r.detail,
+        );
+        q.rows = n + 1;
     }
-    let full = 1024 <= n;
-    if full {
-        return q;
-    }
-    write_four(
-        work,
-        32768 + 16 * n,
-        r.kind,
-        r.structure,
-        r.member,
-        r.detail,
-    );
-    q.rows = n + 1;
     q.next = p.next + 1;
     q
 }

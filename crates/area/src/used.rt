@@ -1,6 +1,5 @@
 // Used definitions: each name once, by first use.
-ghost use Rattle.std.specs.Prelude.{◌≡◌, ◌+◌, ◌*◌, ◌≤◌, length};
-ghost use Rattle.numbers.specs.Result.{is_some};
+ghost use Rattle.std.specs.Prelude.{◌≡◌, ◌+◌, ◌*◌, ◌≤◌, length, is_some};
 ghost use Rattle.schema.specs.Defs.{winning};
 ghost use Rattle.layout.specs.State;
 ghost use Rattle.area.specs.Rows.{names_in};
@@ -8,19 +7,17 @@ ghost use Rattle.area.specs.Area.{started_in, used_in};
 ghost use Rattle.area.specs.Posts.{Safe, Inserts, struct_in, enum_in, Marks};
 
 use crate::{Progress, Round};
-use numbers::words::{read_u32, write};
+use numbers::words::{read, write_u32};
 
 // Whether the name is one of the n at `at`.
 fn contains(work: &[u8], at: usize, n: usize, name: u32) -> bool
     requires { at + 4 * n ≤ length work.now }
     ensures { result ≡ State.contains name (names_in work.now at n) }
 {
-    let mut k = 0;
-    while k < n {
-        if read_u32(work, at + 4 * k) == name {
+    for k in 0..n {
+        if read::<u32>(work, at + 4 * k) == name {
             return true;
         }
-        k += 1;
     }
     false
 }
@@ -36,7 +33,7 @@ fn insert(work: &mut [u8], at: usize, n: usize, room: usize, name: u32) -> usize
     if room <= n {
         return n;
     }
-    write(work, at + 4 * n, 4, name as u64);
+    write_u32(work, at + 4 * n, name);
     n + 1
 }
 

@@ -1,4 +1,6 @@
 -- The file from a work area that holds a state: its length, what the writing of each section asks, and the whole. Assumes nothing.
+use Rattle.schema.specs.declared.kind.Kind.TheVariants.{Structure, Enum}
+use Rattle.std.specs.Prelude.{is_some}
 use Prim.Native.Nat.{ℕ, ◌+◌, ◌-◌, ◌*◌, ◌%◌, ◌^◌, ◌≤◌, ◌<◌}
 use native.Mathlib.Omega.{arith}
 use mathlib.Core.Path.{◌≡◌, refl, sym, ◌∙◌, ap, ap₂, subst}
@@ -10,7 +12,7 @@ use lib.Seq.{length-take-le}
 use borrow.Author.Tests.{leb-true, leb-false, lt-ltb}
 use borrow.Rule.Slice.PartMut.{put_mid}
 use Rattle.numbers.specs.Words.{Bytes, words, over, Stands}
-use Rattle.numbers.specs.Result.{is_some, Every}
+use Rattle.numbers.specs.Result.{Every}
 use Rattle.numbers.proofs.Bytes.{length_words}
 use Rattle.schema.specs.Defs.{Schema, winning}
 use Rattle.layout.specs.State.{Block, Core, State}
@@ -131,7 +133,7 @@ module _ (F : Bytes) (R : Round) (p : Progress) (w : Bytes) (S : Schema) (s : St
     enums_known_law = each (λ n. is_some ((winning S).enum n) ≡ true) c.enums H.rep.known.enums_known
 
     pub records_made : used_records F R p w' ≡ records_of (used_of (winning S) c)
-    records_made = ap₂ (λ (x y : List ℕ). records_for F false x ++ records_for F true y) struct_names_law enum_names_law ∙ sym (used_records_law F S H.schema c structs_known_law enums_known_law)
+    records_made = ap₂ (λ (x y : List ℕ). records_for F Structure x ++ records_for F Enum y) struct_names_law enum_names_law ∙ sym (used_records_law F S H.schema c structs_known_law enums_known_law)
 
     pub records_stored : AllStored F R p w'
     records_stored =
@@ -150,7 +152,7 @@ module _ (F : Bytes) (R : Round) (p : Progress) (w : Bytes) (S : Schema) (s : St
       → length (file_of (winning S) pointer c) ≡ 16 + total c.blocks + (16 + 16 * p.blocks) + 12 + size_of (struct_records F p w) + size_of (enum_records F R p w)
   file_sum pointer =
       let r = ap (λ (x : Records). length (psch_bytes x)) (records_made [] w (omega arith) (sym (over_none w table_at))) in
-      omega (arith, file_size pointer, r, used_size F R p w, count_records F w false 65536 p.structs, count_records F w true (65536 + 4 * R.entries) p.enums)
+      omega (arith, file_size pointer, r, used_size F R p w, count_records F w Structure 65536 p.structs, count_records F w Enum (65536 + 4 * R.entries) p.enums)
 
   pub counted : (pointer size sum sum' : ℕ) → size ≡ total c.blocks → Counts sum (16 + size + (16 + 16 * p.blocks) + 12 + size_of (struct_records F p w))
       → Counts sum' (sum + size_of (enum_records F R p w)) → Counts sum' (length (file_of (winning S) pointer c))

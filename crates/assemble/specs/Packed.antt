@@ -1,5 +1,6 @@
 -- The whole file from a work area, and the work area after it.
-use Rattle.std.specs.Prelude.{ℕ, zero, suc, ◌+◌, ◌-◌, ◌*◌, ◌≤◌, ◌≡◌, true, false, length}
+use Rattle.schema.specs.declared.kind.Kind.TheVariants.{Structure, Enum}
+use Rattle.std.specs.Prelude.{ℕ, zero, suc, ◌+◌, ◌-◌, ◌*◌, ◌≤◌, ◌≡◌, length}
 use Rattle.numbers.specs.Words.{Bytes, read_at, over, zeros}
 use Rattle.numbers.specs.Result.{ok}
 use Rattle.schema.specs.Defs.{Schema, winning}
@@ -21,7 +22,7 @@ lengths_in w at (suc n) = read_at 4 w (at + 4) + lengths_in w (at + 8) n
 -- the file's length by what stands in the area w, whatever it is: PSIN's head and the blocks, PMAP, PSCH's head; then the used structures, the used enums
 abbrev pub length_of : Bytes → Round → Progress → Bytes → ℕ
 length_of F R p w =
-    counted_from F true (counted_from F false (16 + lengths_in w 0 p.blocks + (16 + 16 * p.blocks) + 12) (names_in w 65536 p.structs))
+    counted_from F Enum (counted_from F Structure (16 + lengths_in w 0 p.blocks + (16 + 16 * p.blocks) + 12) (names_in w 65536 p.structs))
     (names_in w (65536 + 4 * R.entries) p.enums)
 
 -- the area w, with the numbers p, holds the state s of a layout over the schema file's definitions

@@ -8,7 +8,7 @@ ghost use Rattle.assemble.specs.Map.{Rows, SomeRows, Row, places_of, Whole, Some
 
 use crate::data::write_data;
 use area::{write_four, write_two};
-use numbers::words::{read_u32, write_u32};
+use numbers::words::{read, write_u32};
 use psch::section::head;
 
 // A row of PMAP, of the block whose row stands in `work` at `row`; the next block's place.
@@ -18,8 +18,8 @@ fn map_row(work: &[u8], row: usize, place: u32, out: &mut [u8], to: usize) -> u3
     ensures { (result ≡ place + read_at 4 work.now (row + 4))
         × (out.new ≡ over out.old to (words (read_at 4 work.now row ∷ place ∷ 0 ∷ read_at 4 work.now (row + 4) ∷ []))) }
 {
-    let name = read_u32(work, row);
-    let len = read_u32(work, row + 4);
+    let name = read::<u32>(work, row);
+    let len = read::<u32>(work, row + 4);
     write_four(out, to, name, place, 0, len);
     place + len
 }
@@ -30,11 +30,9 @@ fn map_rows(work: &[u8], rows: usize, count: usize, out: &mut [u8], at: usize)
     requires count_in_bounds { at + 16 * count ≤ length out.old }
     ensures { (bs : List Block) → Rows work.now rows count bs → out.new ≡ over out.old at (block_rows 16 bs) }
 {
-    let mut k = 0;
     let mut place = 16;
-    while k < count {
+    for k in 0..count {
         place = map_row(work, rows + 8 * k, place, out, at + 16 * k);
-        k += 1;
     }
 }
 
@@ -44,7 +42,7 @@ fn table_row(work: &mut [u8], row: usize, place: u32, to: usize) -> u32
     requires to_in_bounds { to + 4 ≤ length work.old }
     ensures { (result ≡ place + read_at 4 work.old (row + 4)) × (work.new ≡ over work.old to (bytes_of 4 place)) }
 {
-    let len = read_u32(work, row + 4);
+    let len = read::<u32>(work, row + 4);
     write_u32(work, to, place);
     place + len
 }
@@ -55,11 +53,9 @@ fn fill_table(work: &mut [u8], rows: usize, count: usize, table: usize) -> u32
     requires count_bound { (rows + 8 * count ≤ table) × (table + 4 * count ≤ length work.old) }
     ensures { (bs : List Block) → Rows work.old rows count bs → (work.new ≡ over work.old table (words (places_of 16 bs))) × (result ≡ 16 + total bs) }
 {
-    let mut k = 0;
     let mut place = 16;
-    while k < count {
+    for k in 0..count {
         place = table_row(work, rows + 8 * k, place, table + 4 * k);
-        k += 1;
     }
     place
 }

@@ -6,7 +6,7 @@ ghost use Rattle.layout.specs.Assemble.{data_of};
 ghost use Rattle.assemble.specs.Scatter.{Ready, Held, Turn, placed, psin_sized};
 
 use area::write_two;
-use numbers::words::read_u32;
+use numbers::words::read;
 use psch::section::{copy_part, head};
 
 // The item whose head stands at `pos`, to its block's place plus its start; the next one's head.
@@ -15,10 +15,10 @@ fn place_item(work: &[u8], pos: usize, table: usize, out: &mut [u8]) -> usize
     ensures { (result ≡ pos + (16 + read_at 4 work.now (pos + 8)))
         × (out.new ≡ over out.old (placed work.now table pos) (take (read_at 4 work.now (pos + 8)) (drop (pos + 16) work.now))) }
 {
-    let block = read_u32(work, pos) as usize;
-    let start = read_u32(work, pos + 4) as usize;
-    let len = read_u32(work, pos + 8) as usize;
-    let place = read_u32(work, table + 4 * (block - 1)) as usize;
+    let block = read::<u32>(work, pos) as usize;
+    let start = read::<u32>(work, pos + 4) as usize;
+    let len = read::<u32>(work, pos + 8) as usize;
+    let place = read::<u32>(work, table + 4 * (block - 1)) as usize;
     copy_part(work, pos + 16, len, out, place + start);
     pos + (16 + len)
 }
@@ -28,6 +28,7 @@ fn scatter(work: &[u8], from: usize, end: usize, table: usize, out: &mut [u8])
     requires { Held work.now from end table (length out.old) }
     ensures { (c : Core) → Ready work.now from end table (length out.old) c → out.new ≡ over out.old 16 (data_of c) }
 {
+    // Items differ in length, and each says where the next one stands, so no range and no iterator of std's is plainer.
     let mut pos = from;
     while pos < end {
         pos = place_item(work, pos, table, out);

@@ -11,8 +11,9 @@ ghost use Rattle.assemble.specs.Packed.{lengths_in, length_of, Holds, Fitting, S
 
 use crate::blocks::assemble;
 use area::{Progress, Round};
-use numbers::words::{clear, read_u32};
+use numbers::words::{clear, read};
 use psch::{definitions_length, put_schema};
+use schema::kind::Kind;
 
 // The lengths of the `count` blocks together.
 fn data_length(work: &[u8], count: usize) -> usize
@@ -20,10 +21,8 @@ fn data_length(work: &[u8], count: usize) -> usize
     ensures { (result ≡ lengths_in work.now 0 count) × (result ≤ 4294967296 * count) }
 {
     let mut sum = 0;
-    let mut k = 0;
-    while k < count {
-        sum += read_u32(work, 8 * k + 4) as usize;
-        k += 1;
+    for k in 0..count {
+        sum += read::<u32>(work, 8 * k + 4) as usize;
     }
     sum
 }
@@ -37,13 +36,13 @@ pub fn file_length(schema: &[u8], work: &[u8], round: Round, p: Progress) -> usi
 {
     let data = data_length(work, p.blocks);
     let heads = 16 + data + (16 + 16 * p.blocks) + 12;
-    let structs = definitions_length(schema, work, 65536, p.structs, false, heads);
+    let structs = definitions_length(schema, work, 65536, p.structs, Kind::Structure, heads);
     definitions_length(
         schema,
         work,
         65536 + 4 * round.entries,
         p.enums,
-        true,
+        Kind::Enum,
         structs,
     )
 }

@@ -1,8 +1,14 @@
 -- The code's definitions, members and kinds in the terms of the definitions.
-use Rattle.std.specs.Prelude.{ℕ, ◌+◌, min, length}
+use Rattle.std.specs.Prelude.{ℕ, ◌≡◌, ◌+◌, min, length, [], Option, Some, None, is_some, option_map}
 use Rattle.numbers.specs.Words.{Bytes, read_at}
+use Rattle.numbers.specs.Result.{ok}
+use Rattle.names.specs.Entries.{all_of}
+use Rattle.names.specs.declared.entries.Entries.{Entries}
 use Rattle.schema.specs.Defs
-use Rattle.schema.specs.Psch.{members_at}
+use Rattle.schema.specs.Defs.{Schema, winning}
+use Rattle.schema.specs.Psch.{members_at, entries_at, schema_of}
+use Rattle.schema.specs.Index.{last_place}
+use Rattle.layout.specs.Members.{entries_of}
 use Rattle.definitions.specs.declared.members.Member as coded
 use Rattle.layout.specs.Kinds as layout
 use Rattle.cells.specs.declared.defs.Def.{Def}
@@ -20,6 +26,22 @@ member_of m = record { name = m.name; type = m.kind; subtype = m.subtype; offset
 -- where the entries of the enum at a place begin: behind its 4 bytes, or at the file's end
 abbrev pub entries_from : Bytes → ℕ → ℕ
 entries_from F place = min (place + 4) (length F)
+
+-- the entries of the enum at a place of F
+pub record EntriesOf (F : Bytes) (place : ℕ) (e : Entries) : Type 0 where
+  pub file : e.schema.now ≡ F
+  pub start : e.at ≡ entries_from F place
+  pub many : e.count ≡ read_at 3 F (place + 1)
+  pub all : all_of e ≡ entries_at F (read_at 3 F (place + 1)) (place + 4)
+
+-- the entries of the enum that building finds under the name h, in any file, and its name; no entries where it is not there
+pub record Named (F : Bytes) (h : ℕ) (e : Entries) (name : Option ℕ) : Type 0 where
+  pub known : name ≡ option_map (λ at. h) (last_place F 1 h)
+  pub there : (at : ℕ) → last_place F 1 h ≡ Some at → EntriesOf F at e
+  pub missing : last_place F 1 h ≡ None → all_of e ≡ []
+  -- what the schema says of it
+  pub used : (S : Schema) → schema_of F ≡ ok S → is_some ((winning S).enum h) ≡ is_some name
+  pub all : (S : Schema) → schema_of F ≡ ok S → entries_of (winning S) h ≡ all_of e
 
 -- a kind
 abbrev pub kind_is : Kind → layout.Kind

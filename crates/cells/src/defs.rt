@@ -1,10 +1,12 @@
 // A structure's definition, and what a reference and an enum's place stand for.
-ghost use Rattle.std.specs.Prelude.{◌≡◌, ℕ, ◌+◌, ◌<◌, ◌^◌, length};
-ghost use Rattle.schema.specs.Psch.{entries_at};
+ghost use Rattle.std.specs.Prelude.{◌≡◌, ◌<◌, length};
 ghost use Rattle.layout.specs.Members;
-ghost use Rattle.cells.specs.Names.{def_of, entries_from};
+ghost use Rattle.cells.specs.Names.{def_of, EntriesOf, Named};
 
-use definitions::members::read_member;
+use definitions::lookup::find;
+use definitions::members::{entry_count, read_member};
+use names::entries::Entries;
+use schema::kind::Kind;
 
 // A structure's definition: its name, its place in the schema file, its size and how many members it has.
 #[derive(Clone, Copy)]
@@ -19,12 +21,10 @@ pub struct Def {
 pub fn reference_at(schema: &[u8], d: Def, i: u32) -> u32
     ensures { result ≡ Members.reference_at (def_of schema.now d) i }
 {
-    let n = d.count as u32;
-    if n <= i {
+    if u32::from(d.count) <= i {
         return 0;
     }
-    let m = read_member(schema, d.place, i);
-    m.reference
+    read_member(schema, d.place, i).reference
 }
 
 // The high half of a reference.
@@ -34,15 +34,24 @@ pub fn high_half(x: u32) -> u32
     x / 65536
 }
 
-// Where the entries of the enum at a place begin; the file's end, where that is before it.
-pub fn entries_at(schema: &[u8], place: usize) -> usize
+// The entries of the enum at a place; none at the file's end.
+pub fn entries_of(schema: &[u8], place: usize) -> Entries<'_>
     requires { place < length schema.now }
-    ensures value { result ≡ entries_from schema.now place }
-    ensures upper_bound { (result < 2 ^ 63) × ((n : ℕ) → entries_at schema.now n result ≡ entries_at schema.now n (place + 4)) }
+    ensures { EntriesOf schema.now place result }
 {
-    let at = place + 4;
-    if schema.len() < at {
-        return schema.len();
+    Entries {
+        schema,
+        at: (place + 4).min(schema.len()),
+        count: entry_count(schema, place) as usize,
     }
-    at
+}
+
+// The entries of the enum h, and its name where it is there: no entries where it is not.
+pub fn named(schema: &[u8], h: u32) -> (Entries<'_>, Option<u32>)
+    ensures { Named schema.now h result.0 result.1 }
+{
+    match find(schema, Kind::Enum, h) {
+        Some(place) => (entries_of(schema, place), Some(h)),
+        None => (Entries::empty(schema), None),
+    }
 }

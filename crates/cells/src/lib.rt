@@ -2,14 +2,17 @@
 // decided before anything is written.
 #![tactic(auto)]
 
-ghost use Rattle.std.specs.Prelude.{◌≡◌, ◌+◌, ◌*◌, ◌≤◌, length, take, [], ◌∷◌};
-ghost use Rattle.numbers.specs.Words.{words, over};
-ghost use Rattle.cells.specs.Cells.{cell_bytes, cell_size, Sane, Puts, int_fit, bits_fit, vec_fit, text_fit};
+ghost use Rattle.std.specs.Prelude.{◌≡◌, ◌+◌, ◌*◌, ◌≤◌, length, take};
+ghost use Rattle.numbers.specs.Words.{bytes_of, words, over};
+ghost use Rattle.coerce.specs.Numbers.{map_fit};
+ghost use Rattle.cells.specs.Cells.{cell_bytes, cell_size, Sane, Puts, vec_fit, text_fit};
 
 use area::{write_four, write_two};
-use coerce::vector::{Vector, vec_of};
-use coerce::whole::{Bits, Int, float_of, has_str, int_of, str_of};
-use names::enums::{enum_value, found_bits};
+use coerce::misfit::Misfit;
+use coerce::vector::vec_of;
+use coerce::whole::{float_of, has_str, int_of, str_of};
+use names::entries::Entries;
+use names::enums::enum_value;
 use names::flags::flags_bits;
 use names::hashes::hash_of;
 use numbers::words::{copy, part_to, write};
@@ -19,114 +22,98 @@ pub mod defs;
 pub mod kinds;
 pub mod plan;
 
-// An integer of so many bytes, an f32, a vector, a hash, an enum's value or flags by n entries at a place of the schema in so many bytes,
-// a text in so many bytes.
+// An integer of so many bytes, an f32, a vector, a hash, an enum's value or flags by entries in so many bytes, a text in so many bytes.
 #[derive(Clone, Copy)]
-pub enum Cell {
+pub enum Cell<'a> {
     Integer(usize),
     Single,
     Vector(usize),
     Hash,
-    Enum(usize, usize, usize),
-    Flags(usize, usize, usize),
+    Enum(Entries<'a>, usize),
+    Flags(Entries<'a>, usize),
     Fixed(usize),
 }
 
-// Stored; the row does not fit; a float's text (refusal 11).
-#[derive(Clone, Copy)]
-pub enum Put {
-    Stored,
-    Unfit,
-    FloatText,
+// A number in k bytes.
+fn put_number(buf: &mut [u8], off: usize, k: usize, x: Result<u64, Misfit>) -> Result<(), Misfit>
+    requires { (k ≤ 8) × (off + k ≤ length buf.old) }
+    ensures { Puts (map_fit (bytes_of k) x) buf.old off result buf.new }
+{
+    write(buf, off, k, x?);
+    Ok(())
 }
 
-// A whole number in k bytes.
-fn put_int(buf: &mut [u8], off: usize, k: usize, x: Int) -> Put
+// 32 bits in k bytes.
+fn put_bits(buf: &mut [u8], off: usize, k: usize, x: Result<u32, Misfit>) -> Result<(), Misfit>
     requires { (k ≤ 8) × (off + k ≤ length buf.old) }
-    ensures { Puts (int_fit k x) buf.old off result buf.new }
+    ensures { Puts (map_fit (bytes_of k) x) buf.old off result buf.new }
 {
-    match x {
-        Int::Fits(n) => {
-            write(buf, off, k, n);
-            Put::Stored
-        }
-        Int::Unfit => Put::Unfit,
-        Int::FloatText => Put::FloatText,
-    }
-}
-
-// 32 bits, in k bytes.
-fn put_bits(buf: &mut [u8], off: usize, k: usize, x: Bits) -> Put
-    requires { (k ≤ 8) × (off + k ≤ length buf.old) }
-    ensures { Puts (bits_fit k x) buf.old off result buf.new }
-{
-    match x {
-        Bits::Fits(n) => {
-            write(buf, off, k, n as u64);
-            Put::Stored
-        }
-        Bits::Unfit => Put::Unfit,
-        Bits::FloatText => Put::FloatText,
-    }
+    put_number(buf, off, k, x.map(u64::from))
 }
 
 // The first n of four numbers.
-fn put_words(buf: &mut [u8], off: usize, n: usize, a: u32, b: u32, c: u32, d: u32)
+fn put_words(buf: &mut [u8], off: usize, n: usize, four: [u32; 4])
     requires { (2 ≤ n) × (n ≤ 4) × (off + 4 * n ≤ length buf.old) }
-    ensures { buf.new ≡ over buf.old off (words (take n (a ∷ b ∷ c ∷ d ∷ []))) }
+    ensures { buf.new ≡ over buf.old off (words (take n four)) }
 {
+    let [a, b, c, d] = four;
     if n == 4 {
         write_four(buf, off, a, b, c, d);
         return;
     }
     write_two(buf, off, a, b);
     if n == 3 {
-        write(buf, off + 8, 4, c as u64);
+        write(buf, off + 8, 4, u64::from(c));
     }
 }
 
 // The first n numbers of a vector.
-fn put_vector(buf: &mut [u8], off: usize, n: usize, x: Vector) -> Put
+fn put_vector(
+    buf: &mut [u8],
+    off: usize,
+    n: usize,
+    x: Result<[u32; 4], Misfit>,
+) -> Result<(), Misfit>
     requires { (2 ≤ n) × (n ≤ 4) × (off + 4 * n ≤ length buf.old) }
     ensures { Puts (vec_fit n x) buf.old off result buf.new }
 {
-    match x {
-        Vector::Fits(a, b, c, d) => {
-            put_words(buf, off, n, a, b, c, d);
-            Put::Stored
-        }
-        Vector::Unfit => Put::Unfit,
-        Vector::FloatText => Put::FloatText,
-    }
+    put_words(buf, off, n, x?);
+    Ok(())
 }
 
 // A text in len bytes: all of them but the last at most are written; what is longer is cut.
-fn put_text(sheet: &[u8], buf: &mut [u8], off: usize, len: usize, v: Row) -> Put
+fn put_text(sheet: &[u8], buf: &mut [u8], off: usize, len: usize, v: Row) -> Result<(), Misfit>
     requires { off + len ≤ length buf.old }
     ensures { Puts (text_fit sheet.now len v) buf.old off result buf.new }
 {
     if !has_str(v) {
-        return Put::Unfit;
+        return Err(Misfit::Unfit);
     }
     let t = str_of(sheet, v);
     if 0 < len {
         copy(buf, off, part_to(t, len - 1));
     }
-    Put::Stored
+    Ok(())
 }
 
 // A row as the cell wants it, stored at off.
-pub fn put_cell(sheet: &[u8], schema: &[u8], buf: &mut [u8], off: usize, cell: Cell, v: Row) -> Put
+pub fn put_cell(
+    sheet: &[u8],
+    buf: &mut [u8],
+    off: usize,
+    cell: Cell<'_>,
+    v: Row,
+) -> Result<(), Misfit>
     requires { Sane cell × (off + cell_size cell ≤ length buf.old) }
-    ensures { Puts (cell_bytes sheet.now schema.now cell v) buf.old off result buf.new }
+    ensures { Puts (cell_bytes sheet.now cell.entry v) buf.old off result buf.new }
 {
     match cell {
-        Cell::Integer(k) => put_int(buf, off, k, int_of(sheet, v)),
+        Cell::Integer(k) => put_number(buf, off, k, int_of(sheet, v)),
         Cell::Single => put_bits(buf, off, 4, float_of(sheet, v)),
         Cell::Vector(n) => put_vector(buf, off, n, vec_of(sheet, v, n)),
-        Cell::Hash => put_bits(buf, off, 4, found_bits(hash_of(sheet, v))),
-        Cell::Enum(at, n, k) => put_bits(buf, off, k, enum_value(sheet, schema, at, n, v)),
-        Cell::Flags(at, n, k) => put_bits(buf, off, k, flags_bits(sheet, schema, at, n, 64, v)),
+        Cell::Hash => put_bits(buf, off, 4, hash_of(sheet, v).ok_or(Misfit::Unfit)),
+        Cell::Enum(entries, k) => put_bits(buf, off, k, enum_value(sheet, entries, v)),
+        Cell::Flags(entries, k) => put_bits(buf, off, k, flags_bits(sheet, entries, 64, v)),
         Cell::Fixed(len) => put_text(sheet, buf, off, len, v),
     }
 }

@@ -2,18 +2,16 @@
 ghost use Rattle.std.specs.Prelude.{◌≡◌, ◌≤◌, ◌<◌};
 ghost use Rattle.layout.specs.Kinds;
 ghost use Rattle.layout.specs.Members;
-ghost use Rattle.cells.specs.Plans.{named_cell};
-ghost use Rattle.cells.specs.Plans.{scalar_plan, fixed_plan, PlansNamed, PlansKind};
+ghost use Rattle.cells.specs.Plans.{scalar_plan, fixed_plan, PlansText, PlansKind};
 
 use crate::Cell;
-use crate::defs::{Def, entries_at, high_half, reference_at};
-use definitions::lookup::{Found as Place, find_enum};
-use definitions::members::{Member, entry_count};
+use crate::defs::{Def, high_half, named, reference_at};
+use definitions::members::Member;
 
-// A cell of so many bytes, with whether its enum is known and that one's name; a text by pointer; nothing; a kind of remark, with its detail.
+// A cell of so many bytes, with the name of its enum where that one is known; a text by pointer; nothing; a kind of remark, with its detail.
 #[derive(Clone, Copy)]
-pub enum Plan {
-    Store(Cell, usize, bool, u32),
+pub enum Plan<'a> {
+    Store(Cell<'a>, usize, Option<u32>),
     Pointer,
     Nothing,
     Remark(u32, u32),
@@ -30,56 +28,43 @@ fn enum_size(sub: u8) -> usize
     }
 }
 
-// Flags or an enum's value.
-fn named_cell(flags: bool, at: usize, n: usize, k: usize) -> Cell
-    ensures { result ≡ named_cell flags at n k }
-{
-    if flags {
-        return Cell::Flags(at, n, k);
-    }
-    Cell::Enum(at, n, k)
-}
-
-// An enum or flags member, by the entries of the enum h.
-fn named_plan(schema: &[u8], m: Member, h: u32, flags: bool) -> Plan
-    ensures { PlansNamed schema.now m flags h result }
-{
-    let k = enum_size(m.subtype);
-    match find_enum(schema, h) {
-        Place::Nothing => Plan::Store(named_cell(flags, 0, 0, k), k, false, h),
-        Place::At(at) => {
-            let n = entry_count(schema, at) as usize;
-            let from = entries_at(schema, at);
-            Plan::Store(named_cell(flags, from, n, k), k, true, h)
-        }
-    }
-}
-
 // A text in as many bytes as the reference's high half says.
-fn fixed(reference: u32) -> Plan
+fn fixed<'a>(reference: u32) -> Plan<'a>
     ensures { (result ≡ fixed_plan reference) × (Members.high16 reference < 65536) }
 {
     let len = high_half(reference) as usize;
-    Plan::Store(Cell::Fixed(len), len, false, 0)
+    Plan::Store(Cell::Fixed(len), len, None)
 }
 
 // A whole number of k bytes.
-fn whole(k: usize) -> Plan
+fn whole<'a>(k: usize) -> Plan<'a>
     ensures { result ≡ scalar_plan (Kinds.integer k) }
 {
-    Plan::Store(Cell::Integer(k), k, false, 0)
+    Plan::Store(Cell::Integer(k), k, None)
 }
 
 // A vector of n numbers.
-fn vector(n: usize) -> Plan
+fn vector<'a>(n: usize) -> Plan<'a>
     requires { n ≤ 4 }
     ensures { result ≡ scalar_plan (Kinds.vector n) }
 {
-    Plan::Store(Cell::Vector(n), 4 * n, false, 0)
+    Plan::Store(Cell::Vector(n), 4 * n, None)
+}
+
+// A text, by its subtype.
+fn text<'a>(m: Member) -> Plan<'a>
+    ensures { PlansText m result }
+{
+    match m.subtype {
+        0 => fixed(m.reference),
+        1..=3 => Plan::Pointer,
+        7 | 8 => Plan::Store(Cell::Hash, 4, None),
+        sub => Plan::Remark(3, u32::from(sub)),
+    }
 }
 
 // A member, by its type byte and subtype.
-pub fn plan_of(schema: &[u8], d: Def, m: Member) -> Plan
+pub fn plan_of(schema: &[u8], d: Def, m: Member) -> Plan<'_>
     ensures { PlansKind schema.now d m (Kinds.kind_of m.kind) result }
 {
     let ty = m.kind;
@@ -87,26 +72,23 @@ pub fn plan_of(schema: &[u8], d: Def, m: Member) -> Plan
         0x00..=0x02 => whole(1),
         0x03 | 0x04 | 0x1E => whole(2),
         0x05 | 0x06 => whole(4),
-        0x07 => Plan::Store(Cell::Single, 4, false, 0),
+        0x07 => Plan::Store(Cell::Single, 4, None),
         0x08 => vector(2),
         0x09 | 0x14 => vector(3),
         0x0A | 0x15 => vector(4),
-        0x0B => {
-            let sub = m.subtype;
-            match sub {
-                0 => fixed(m.reference),
-                1..=3 => Plan::Pointer,
-                7 | 8 => Plan::Store(Cell::Hash, 4, false, 0),
-                _ => Plan::Remark(3, sub as u32),
-            }
-        }
+        0x0B => text(m),
         0x0C | 0x0D | 0x10 => Plan::Nothing,
-        0x0E => named_plan(schema, m, m.reference, false),
+        0x0E => {
+            let (entries, name) = named(schema, m.reference);
+            let size = enum_size(m.subtype);
+            Plan::Store(Cell::Enum(entries, size), size, name)
+        }
         0x0F => {
-            let h = reference_at(schema, d, m.reference % 4096);
-            named_plan(schema, m, h, true)
+            let (entries, name) = named(schema, reference_at(schema, d, m.reference % 4096));
+            let size = enum_size(m.subtype);
+            Plan::Store(Cell::Flags(entries, size), size, name)
         }
         0x20 => whole(8),
-        _ => Plan::Remark(13, ty as u32),
+        _ => Plan::Remark(13, u32::from(ty)),
     }
 }

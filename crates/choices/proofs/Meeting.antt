@@ -1,7 +1,7 @@
 -- Actions by their tests, and answers that meet the definition's, one action after another. Assumes nothing.
+use Rattle.std.specs.Prelude.{Option, Some, None}
 use mathlib.Core.Path.{◌≡◌, refl}
 use mathlib.Core.Bool.{Bool, true, false}
-use mathlib.Core.Option.{Option, none, some}
 use Prim.Native.Nat.{ℕ}
 use Rattle.numbers.specs.Words.{Bytes}
 use Rattle.schema.specs.Defs.{Schema}
@@ -20,11 +20,11 @@ pub if_false : {A : Type 0} (b : Bool) (f g : M A) (s : State) → b ≡ false �
 unfolding if_m
 if_false b f g s e = rw e refl
 
-pub opt_none : {X A : Type 0} (o : Option X) (f : M A) (g : X → M A) (s : State) → o ≡ none → opt_m o f g s ≡ f s
+pub opt_none : {X A : Type 0} (o : Option X) (f : M A) (g : X → M A) (s : State) → o ≡ None → opt_m o f g s ≡ f s
 unfolding opt_m
 opt_none o f g s e = rw e refl
 
-pub opt_some : {X A : Type 0} (o : Option X) (f : M A) (g : X → M A) (x : X) (s : State) → o ≡ some x → opt_m o f g s ≡ g x s
+pub opt_some : {X A : Type 0} (o : Option X) (f : M A) (g : X → M A) (x : X) (s : State) → o ≡ Some x → opt_m o f g s ≡ g x s
 unfolding opt_m
 opt_some o f g x s e = rw e refl
 

@@ -1,8 +1,8 @@
 -- The values of a structure by name, and a pair's names. Assumes nothing.
+use Rattle.std.specs.Prelude.{Some, None}
 use mathlib.Core.Path.{◌≡◌, refl, sym, ap, ◌∙◌}
 use mathlib.Core.Bool.{Bool, true, false}
 use mathlib.Core.List.{List, [], ◌∷◌}
-use mathlib.Core.Option.{none, some}
 use Prim.Native.Nat.{ℕ, zero, suc, ◌+◌, ◌-◌, ◌≤◌, ◌<◌}
 use native.Mathlib.Omega.{arith}
 use borrow.Author.Tests.{eq-eqb, ne_eqb, eqb-true, eqb-false, ltb-true, ltb-false}
@@ -10,35 +10,33 @@ use lib.Dec.{eqb, ltb}
 use lib.ListN.{length, drop}
 use Rattle.numbers.specs.Result.{nth}
 use Rattle.value.specs.Rows.{Fields, field_named}
-use Rattle.value.specs.Answer.{found_is}
-use Rattle.value.specs.declared.Found.TheVariants.{At, Missing}
 use Rattle.schema.specs.Defs.{Member, StructDef}
 use Rattle.layout.specs.Write.{ARRAYINFO, named, pair_fields}
 use Rattle.choices.specs.Sources.{NextNamed}
 use Rattle.choices.proofs.Nths.{nth_none}
 
 -- of one value, or of two
-pub one_found : (a r name : ℕ) → a ≡ name → At r ≡ found_is (field_named name ((a, r) ∷ []))
+pub one_found : (a r name : ℕ) → a ≡ name → Some r ≡ field_named name ((a, r) ∷ [])
 unfolding field_named
 one_found a r name e = rw (eq-eqb a name e) refl
 
-pub one_missing : (a r name : ℕ) → (a ≡ name → ⊥) → Missing ≡ found_is (field_named name ((a, r) ∷ []))
+pub one_missing : (a r name : ℕ) → (a ≡ name → ⊥) → None ≡ field_named name ((a, r) ∷ [])
 unfolding field_named
 one_missing a r name e = rw (ne_eqb a name e) refl
 
-pub first_found : (a r b s name : ℕ) → a ≡ name → At r ≡ found_is (field_named name ((a, r) ∷ (b, s) ∷ []))
+pub first_found : (a r b s name : ℕ) → a ≡ name → Some r ≡ field_named name ((a, r) ∷ (b, s) ∷ [])
 unfolding field_named
 first_found a r b s name e = rw (eq-eqb a name e) refl
 
-pub second_found : (a r b s name : ℕ) → (a ≡ name → ⊥) → b ≡ name → At s ≡ found_is (field_named name ((a, r) ∷ (b, s) ∷ []))
+pub second_found : (a r b s name : ℕ) → (a ≡ name → ⊥) → b ≡ name → Some s ≡ field_named name ((a, r) ∷ (b, s) ∷ [])
 unfolding field_named
 second_found a r b s name e f = rw (ne_eqb a name e, eq-eqb b name f) refl
 
-pub neither_found : (a r b s name : ℕ) → (a ≡ name → ⊥) → (b ≡ name → ⊥) → Missing ≡ found_is (field_named name ((a, r) ∷ (b, s) ∷ []))
+pub neither_found : (a r b s name : ℕ) → (a ≡ name → ⊥) → (b ≡ name → ⊥) → None ≡ field_named name ((a, r) ∷ (b, s) ∷ [])
 unfolding field_named
 neither_found a r b s name e f = rw (ne_eqb a name e, ne_eqb b name f) refl
 
-pub none_found : (name : ℕ) → Missing ≡ found_is (field_named name [])
+pub none_found : (name : ℕ) → None ≡ field_named name []
 unfolding field_named
 none_found name = refl
 
@@ -57,14 +55,14 @@ named_nil [] = refl
 named_nil (m ∷ ms) = refl
 
 -- every member is ARRAYINFO
-named_none : (ms : List Member) (r : ℕ) (rs : List ℕ) → ((i : ℕ) (m : Member) → nth ms i ≡ some m → m.name ≡ ARRAYINFO) → named ms (r ∷ rs) ≡ []
+named_none : (ms : List Member) (r : ℕ) (rs : List ℕ) → ((i : ℕ) (m : Member) → nth ms i ≡ Some m → m.name ≡ ARRAYINFO) → named ms (r ∷ rs) ≡ []
 unfolding named nth
 named_none [] r rs f = refl
 named_none (m ∷ ms) r rs f = rw (eq-eqb m.name ARRAYINFO (f 0 m refl), named) (named_none ms r rs (λ i e g. f (suc i) e g))
 
 -- the first that is not takes the row
-named_first : (ms : List Member) (i : ℕ) (m : Member) (r : ℕ) (rs : List ℕ) → nth ms i ≡ some m → (m.name ≡ ARRAYINFO → ⊥)
-    → ((j : ℕ) → j < i → (e : Member) → nth ms j ≡ some e → e.name ≡ ARRAYINFO) → named ms (r ∷ rs) ≡ (m.name, r) ∷ named (drop (i + 1) ms) rs
+named_first : (ms : List Member) (i : ℕ) (m : Member) (r : ℕ) (rs : List ℕ) → nth ms i ≡ Some m → (m.name ≡ ARRAYINFO → ⊥)
+    → ((j : ℕ) → j < i → (e : Member) → nth ms j ≡ Some e → e.name ≡ ARRAYINFO) → named ms (r ∷ rs) ≡ (m.name, r) ∷ named (drop (i + 1) ms) rs
 unfolding named nth
 named_first [] i m r rs e f g = absurd (let z : ◌≡◌ {A = ℕ} 0 1 = cc in omega arith)
 named_first (a ∷ ms) zero m r rs e f g =
@@ -78,13 +76,13 @@ named_first (a ∷ ms) (suc i) m r rs e f g =
 pub record Seeking (d : StructDef) (count k i : ℕ) : Type 0 where
   pub from : k ≤ i
   pub few : i ≤ count
-  pub passed : (j : ℕ) → k ≤ j → j < i → (m : Member) → nth d.members j ≡ some m → m.name ≡ ARRAYINFO
+  pub passed : (j : ℕ) → k ≤ j → j < i → (m : Member) → nth d.members j ≡ Some m → m.name ≡ ARRAYINFO
 
 module _ (d : StructDef) (count : ℕ) where
   pub seek_begin : (k : ℕ) → k ≤ count → Seeking d count k k
   seek_begin k h = record { from = omega arith; few = h; passed = λ j a b. absurd (omega arith) }
 
-  pub seek_on : (k i : ℕ) (m : Member) → Seeking d count k i → i < count → nth d.members i ≡ some m → m.name ≡ 0x100 → Seeking d count k (i + 1)
+  pub seek_on : (k i : ℕ) (m : Member) → Seeking d count k i → i < count → nth d.members i ≡ Some m → m.name ≡ 0x100 → Seeking d count k (i + 1)
   seek_on k i m s h e f =
       record {
         from = omega (arith, s.from);
@@ -92,14 +90,14 @@ module _ (d : StructDef) (count : ℕ) where
         passed = λ j a b x y. go j a b x y (eqb j i) refl;
       }
     where
-      go : (j : ℕ) → k ≤ j → j < i + 1 → (x : Member) → nth d.members j ≡ some x → (t : Bool) → eqb j i ≡ t → x.name ≡ ARRAYINFO
+      go : (j : ℕ) → k ≤ j → j < i + 1 → (x : Member) → nth d.members j ≡ Some x → (t : Bool) → eqb j i ≡ t → x.name ≡ ARRAYINFO
       go j a b x y true q =
-          let z : nth d.members j ≡ some m = rw (eqb-true j i q) e in
+          let z : nth d.members j ≡ Some m = rw (eqb-true j i q) e in
           let u : x ≡ m = cc in
           ap (λ (n : Member). n.name) u ∙ f
       go j a b x y false q = s.passed j a (let n : j ≡ i → ⊥ = eqb-false j i q in omega arith) x y
 
-  pub seek_found : (k i : ℕ) (m : Member) → Seeking d count k i → i < count → nth d.members i ≡ some m → (m.name ≡ 0x100 → ⊥) → NextNamed d count k i
+  pub seek_found : (k i : ℕ) (m : Member) → Seeking d count k i → i < count → nth d.members i ≡ Some m → (m.name ≡ 0x100 → ⊥) → NextNamed d count k i
   seek_found k i m s h e f =
       record { from = s.from; few = s.few; passed = s.passed; here = λ x y z. f (let u : x ≡ m = cc in ap (λ (n : Member). n.name) (sym u) ∙ z) }
 
@@ -110,7 +108,7 @@ module _ (d : StructDef) (count : ℕ) where
         from = omega (arith, s.from);
         few = omega arith;
         passed = rw (← e) s.passed;
-        here = λ x y z. absurd (let q : nth d.members count ≡ none = nth_none d.members count (omega (arith, l)) in let u : ◌≡◌ {A = ℕ} 0 1 = cc in omega arith);
+        here = λ x y z. absurd (let q : nth d.members count ≡ None = nth_none d.members count (omega (arith, l)) in let u : ◌≡◌ {A = ℕ} 0 1 = cc in omega arith);
       }
 
   module _ (l : length d.members ≡ count) (r s : ℕ) where
@@ -118,14 +116,14 @@ module _ (d : StructDef) (count : ℕ) where
     pub pair_none : (i : ℕ) → NextNamed d count 0 i → count ≤ i → pair_fields d (r, s) ≡ []
     pair_none i a h = named_none d.members r (s ∷ []) (λ j m e. a.passed j (omega arith) (behind j m e) m e)
       where
-        behind : (j : ℕ) (m : Member) → nth d.members j ≡ some m → j < i
+        behind : (j : ℕ) (m : Member) → nth d.members j ≡ Some m → j < i
         behind j m e = go (ltb j count) refl
           where
             go : (b : Bool) → ltb j count ≡ b → j < i
             go true q = omega (arith, ltb-true j count q)
-            go false q = absurd (let z : nth d.members j ≡ none = nth_none d.members j (omega (arith, l, ltb-false j count q)) in let u : ◌≡◌ {A = ℕ} 0 1 = cc in omega arith)
+            go false q = absurd (let z : nth d.members j ≡ None = nth_none d.members j (omega (arith, l, ltb-false j count q)) in let u : ◌≡◌ {A = ℕ} 0 1 = cc in omega arith)
 
-    module _ (i : ℕ) (a : Member) (f : NextNamed d count 0 i) (e : nth d.members i ≡ some a) where
+    module _ (i : ℕ) (a : Member) (f : NextNamed d count 0 i) (e : nth d.members i ≡ Some a) where
       rest : pair_fields d (r, s) ≡ (a.name, r) ∷ named (drop (i + 1) d.members) (s ∷ [])
       rest = named_first d.members i a r (s ∷ []) e (f.here a e) (λ j h x y. f.passed j (omega arith) h x y)
 
@@ -133,19 +131,19 @@ module _ (d : StructDef) (count : ℕ) where
       pub pair_one : (j : ℕ) → NextNamed d count (i + 1) j → count ≤ j → pair_fields d (r, s) ≡ (a.name, r) ∷ []
       pair_one j g h = rest ∙ ap (λ (x : Fields). (a.name, r) ∷ x) (named_none (drop (i + 1) d.members) s [] (λ k m y. behind k m (sym (nth_drop d.members (i + 1) k) ∙ y)))
         where
-          behind : (k : ℕ) (m : Member) → nth d.members (i + 1 + k) ≡ some m → m.name ≡ ARRAYINFO
+          behind : (k : ℕ) (m : Member) → nth d.members (i + 1 + k) ≡ Some m → m.name ≡ ARRAYINFO
           behind k m y = go (ltb (i + 1 + k) count) refl
             where
               go : (b : Bool) → ltb (i + 1 + k) count ≡ b → m.name ≡ ARRAYINFO
               go true q = g.passed (i + 1 + k) (omega arith) (omega (arith, ltb-true (i + 1 + k) count q)) m y
               go false q =
                   absurd
-                  (let z : nth d.members (i + 1 + k) ≡ none = nth_none d.members (i + 1 + k) (omega (arith, l, ltb-false (i + 1 + k) count q)) in
+                  (let z : nth d.members (i + 1 + k) ≡ None = nth_none d.members (i + 1 + k) (omega (arith, l, ltb-false (i + 1 + k) count q)) in
                   let u : ◌≡◌ {A = ℕ} 0 1 = cc in
                   omega arith)
 
       -- there is a second
-      pub pair_two : (j : ℕ) (b : Member) → NextNamed d count (i + 1) j → nth d.members j ≡ some b → pair_fields d (r, s) ≡ (a.name, r) ∷ (b.name, s) ∷ []
+      pub pair_two : (j : ℕ) (b : Member) → NextNamed d count (i + 1) j → nth d.members j ≡ Some b → pair_fields d (r, s) ≡ (a.name, r) ∷ (b.name, s) ∷ []
       pair_two j b g y =
           rest
           ∙ ap (λ (x : Fields). (a.name, r) ∷ x)

@@ -37,8 +37,3 @@ module _ (R : Round) (n : ℕ) (p : Progress) (w : Bytes) (d : Def) (m : coded.M
 
   pub is_noted : (q : Progress) (w' : Bytes) → needs_note k pairs ≡ true → Notes R n p w (remark_on d m 9 0) q w' → Noted R n p w d m kind pairs q w'
   is_noted q w' e x = rw (← same) (record { met = λ f. x; none = λ f. absurd (clash e f) })
-
--- of a Null none is met
-pub null_not_noted : (R : Round) (n : ℕ) (p : Progress) (w : Bytes) (d : Def) (m : coded.Member) (kind : ℕ) (pairs : Bool) → pairs ≡ false → kind ≡ 0
-    → Noted R n p w d m kind pairs p w
-null_not_noted R n p w d m kind pairs e f = not_noted R n p w d m kind kind pairs refl (null_needs_none kind pairs e f)

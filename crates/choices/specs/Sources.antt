@@ -1,6 +1,6 @@
 -- Where a structure's values come from, and what is chosen before it is written.
-use Rattle.std.specs.Prelude.{ℕ, ◌≤◌, ◌<◌, ◌≡◌, cond, [], ◌∷◌, eqb}
-use Rattle.std.proofs.Math.Option.{Option, none, some}
+use Rattle.std.specs.Prelude.{ℕ, ◌≤◌, ◌<◌, ◌≡◌, cond, [], ◌∷◌, eqb, Option, Some, None}
+use Rattle.std.specs.Option.{option_or}
 use Rattle.numbers.specs.Words.{Bytes}
 use Rattle.numbers.specs.Result.{ok, nth}
 use Rattle.value.specs.Rows.{Row, row, Fields, fields_of, Array, Map}
@@ -12,8 +12,7 @@ use Rattle.layout.specs.Write.{ARRAYINFO}
 use Rattle.area.specs.declared.Round.{Round}
 use Rattle.area.specs.Area.{env_of}
 use Rattle.cells.specs.Names.{member_of}
-use Rattle.members.specs.declared.Looked.{Looked}
-use Rattle.members.specs.declared.Looked.TheVariants as L
+use Rattle.cells.specs.declared.defs.Def.{Def}
 use Rattle.members.specs.Names.{looked_is, looked_up}
 use Rattle.choices.specs.declared.source.Source.{Source}
 use Rattle.choices.specs.declared.source.Source.TheVariants as S
@@ -31,28 +30,23 @@ fields_is T (S.Two r a s b) = (a, r) ∷ (b, s) ∷ []
 pub record NextNamed (d : StructDef) (count k r : ℕ) : Type 0 where
   pub from : k ≤ r
   pub few : r ≤ count
-  pub passed : (i : ℕ) → k ≤ i → i < r → (m : Defs.Member) → nth d.members i ≡ some m → m.name ≡ ARRAYINFO
-  pub here : (m : Defs.Member) → nth d.members r ≡ some m → m.name ≡ ARRAYINFO → ⊥
+  pub passed : (i : ℕ) → k ≤ i → i < r → (m : Defs.Member) → nth d.members i ≡ Some m → m.name ≡ ARRAYINFO
+  pub here : (m : Defs.Member) → nth d.members r ≡ Some m → m.name ≡ ARRAYINFO → ⊥
 
 -- an element descriptor, or none
 abbrev pub info_is : Info → Option Defs.Member
-info_is (I.At m) = some (member_of m)
-info_is I.Missing = none
-
--- the first, or else the second
-abbrev pub or_looked : Looked → Looked → Looked
-or_looked (L.At d) r = L.At d
-or_looked L.Missing r = r
+info_is (I.At m) = Some (member_of m)
+info_is I.Missing = None
 
 -- the structure that building finds under the row's own type, or else under the reference
-abbrev pub own_up : Bytes → Row → ℕ → Looked
-own_up F v reference = or_looked (looked_up F v.a) (looked_up F reference)
+abbrev pub own_up : Bytes → Row → ℕ → Option Def
+own_up F v reference = option_or (looked_up F v.a) (looked_up F reference)
 
 -- "by pointer the row's own type counts where the schema has a structure of that name, else the reference"
-pub record Owned (F : Bytes) (v : Row) (reference : ℕ) (r : Looked) : Type 0 where
+pub record Owned (F : Bytes) (v : Row) (reference : ℕ) (r : Option Def) : Type 0 where
   pub winner : (S : Schema) (T : Bytes) (R : Round) → schema_of F ≡ ok S → (winning S).struct (own_type (env_of T S R) v reference) ≡ looked_is F r
-  pub missing : (S : Schema) (T : Bytes) (R : Round) → schema_of F ≡ ok S → r ≡ L.Missing → own_type (env_of T S R) v reference ≡ reference
-  pub name : (S : Schema) (T : Bytes) (R : Round) (d : _) → schema_of F ≡ ok S → r ≡ L.At d → own_type (env_of T S R) v reference ≡ d.name
+  pub missing : (S : Schema) (T : Bytes) (R : Round) → schema_of F ≡ ok S → r ≡ None → own_type (env_of T S R) v reference ≡ reference
+  pub name : (S : Schema) (T : Bytes) (R : Round) (d : Def) → schema_of F ≡ ok S → r ≡ Some d → own_type (env_of T S R) v reference ≡ d.name
 
 -- how many items an array has; what is none has none
 abbrev pub item_count : Row → ℕ

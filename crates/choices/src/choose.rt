@@ -15,36 +15,35 @@ use cells::defs::Def;
 use definitions::members::{Member, read_member};
 use members::member::fits;
 use members::slots::put_counted;
-use members::{Looked, Wrote, drop_run, look_up, say};
-use texts::text::{is_empty, trim};
+use members::{Wrote, drop_run, look_up, say};
+use texts::text::trim;
+use value::kind::Kind;
 use value::{Row, text_of};
 
 // The structure that a row by pointer is: its own type's, where there is one, else the reference's.
-pub fn own_type(schema: &[u8], v: Row, reference: u32) -> Looked
+pub fn own_type(schema: &[u8], v: Row, reference: u32) -> Option<Def>
     ensures value { result ≡ own_up schema.now v reference }
     ensures owned { Owned schema.now v reference result }
 {
-    match look_up(schema, v.a) {
-        Looked::At(d) => Looked::At(d),
-        Looked::Missing => look_up(schema, reference),
+    let own = look_up(schema, v.a);
+    if own.is_some() {
+        return own;
     }
+    look_up(schema, reference)
 }
 
 // Struct, Null or empty text.
 pub fn is_struct_value(v: Row) -> bool
     ensures { (E : _) → result ≡ Write.is_struct_value E v }
 {
-    let k = v.kind;
-    (k == 21) | ((k == 0) | ((k == 15) & (v.b == 0)))
+    v.is(Kind::Struct) | v.is(Kind::Null) | (v.is(Kind::Str) & (v.b == 0))
 }
 
 // Array, Null or blank text.
 pub fn is_array_value(sheet: &[u8], v: Row) -> bool
     ensures { (S : Schema) (round : Round) → result ≡ Write.is_array_value (env_of sheet.now S round) v }
 {
-    let k = v.kind;
-    let blank = is_empty(trim(text_of(sheet, v)));
-    (k == 19) | ((k == 0) | ((k == 15) & blank))
+    v.is(Kind::Array) | v.is(Kind::Null) | (v.is(Kind::Str) && trim(text_of(sheet, v)).is_empty())
 }
 
 // An element descriptor, or none.
@@ -71,24 +70,17 @@ pub fn array_info(schema: &[u8], d: Def, m: Member) -> Info
 }
 
 // How many items an array has.
-#[tactic(auto, using(crate::proofs::Choosing::items_all, crate::proofs::Choosing::items_none))]
 pub fn item_count(v: Row) -> u32
     ensures { result ≡ item_count v }
 {
-    if v.kind == 19 {
-        return v.b;
-    }
-    0
+    if v.is(Kind::Array) { v.b } else { 0 }
 }
 
 // How many pairs a map has.
 pub fn pair_count(v: Row) -> u32
     ensures { result ≡ pair_count v }
 {
-    if v.kind == 20 {
-        return v.b;
-    }
-    0
+    if v.is(Kind::Map) { v.b } else { 0 }
 }
 
 // Whether an array is by pointer.

@@ -12,10 +12,10 @@ use area::{Progress, Round};
 use cells::defs::Def;
 use definitions::members::Member;
 use members::say;
+use value::kind::Kind;
 use value::read_row;
 
 // Remark 9, where the row is neither Struct nor Null; of a map's pairs there is none.
-#[tactic(auto, using(crate::proofs::NinthRemark::null_not_noted))]
 pub fn element_note(
     sheet: &[u8],
     work: &mut [u8],
@@ -33,10 +33,7 @@ pub fn element_note(
         return p;
     }
     let v = read_row(sheet, r);
-    if v.kind == 21 {
-        return p;
-    }
-    if v.kind == 0 {
+    if v.is(Kind::Struct) || v.is(Kind::Null) {
         return p;
     }
     say(work, round, p, d, m, 9, 0)

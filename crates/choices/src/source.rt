@@ -1,7 +1,6 @@
 // Where a structure's values come from.
 ghost use Rattle.std.specs.Prelude.{◌≡◌, ◌≤◌};
 ghost use Rattle.numbers.specs.Words.{Bytes};
-ghost use Rattle.value.specs.Answer.{found_is, value_is};
 ghost use Rattle.value.specs.Rows.{field_named, fields_of, value_row};
 ghost use Rattle.layout.specs.Write.{pair_fields};
 ghost use Rattle.cells.specs.Names.{def_of};
@@ -9,7 +8,7 @@ ghost use Rattle.choices.specs.Sources.{fields_is, NextNamed};
 
 use cells::defs::Def;
 use definitions::members::read_member;
-use value::{Found, field_named, read_row};
+use value::{field_named, read_row};
 
 // The members of a row; none; a pair's key, or key and value, each with its row and name.
 #[derive(Clone, Copy)]
@@ -21,37 +20,37 @@ pub enum Source {
 }
 
 // The first value of a name.
-pub fn value_of(sheet: &[u8], from: Source, name: u32) -> Found
-    ensures { result ≡ found_is (field_named name (fields_is sheet.now from)) }
+pub fn value_of(sheet: &[u8], from: Source, name: u32) -> Option<usize>
+    ensures { result ≡ field_named name (fields_is sheet.now from) }
 {
     match from {
         Source::Row(r) => field_named(sheet, read_row(sheet, r), name),
-        Source::Nothing => Found::Missing,
+        Source::Nothing => None,
         Source::One(r, a) => {
             if a == name {
-                return Found::At(r);
+                return Some(r);
             }
-            Found::Missing
+            None
         }
         Source::Two(r, a, s, b) => {
             if a == name {
-                return Found::At(r);
+                return Some(r);
             }
             if b == name {
-                return Found::At(s);
+                return Some(s);
             }
-            Found::Missing
+            None
         }
     }
 }
 
 // A value's members.
-pub fn source_of(v: Found) -> Source
-    ensures { (T : Bytes) → fields_is T result ≡ fields_of T (value_row T (value_is v)) }
+pub fn source_of(v: Option<usize>) -> Source
+    ensures { (T : Bytes) → fields_is T result ≡ fields_of T (value_row T v) }
 {
     match v {
-        Found::At(r) => Source::Row(r),
-        Found::Missing => Source::Nothing,
+        Some(r) => Source::Row(r),
+        None => Source::Nothing,
     }
 }
 

@@ -1,17 +1,18 @@
 -- Members as they are written: remarks and cells. No line here names a place of the code. Assumes nothing.
+use Rattle.std.specs.Prelude.{Option, Some, None, is_some, Ok, Err}
 use mathlib.Core.Path.{◌≡◌, refl, sym, ap, subst, ◌∙◌}
 use mathlib.Core.Bool.{Bool, true, false}
 use mathlib.Core.List.{◌++◌}
-use mathlib.Core.Option.{none, some}
 use Prim.Native.Nat.{ℕ, ◌+◌, ◌-◌, ◌≤◌}
 use native.Mathlib.Omega.{arith}
 use lib.Dec.{leb}
 use lib.ListN.{length, take, drop}
 use borrow.Rule.Slice.PartMut.{put_mid, mid_len, same_len_mid, put_same}
 use Rattle.numbers.specs.Words.{Bytes, over}
-use Rattle.numbers.specs.Result.{ok, is_some}
+use Rattle.numbers.specs.Result.{ok}
 use Rattle.value.specs.Rows.{Value, Row, value_row}
-use Rattle.coerce.specs.Numbers.{Fit, fits, unfit, float_text}
+use Rattle.coerce.specs.Numbers.{Fit}
+use Rattle.coerce.specs.declared.misfit.Misfit.TheVariants.{Unfit, FloatText}
 use Rattle.schema.specs.Defs
 use Rattle.schema.specs.Defs.{Schema, StructDef, winning}
 use Rattle.schema.specs.Psch.{schema_of}
@@ -25,11 +26,10 @@ use Rattle.area.specs.Area.{Rep, used_in, env_of}
 use Rattle.area.specs.Posts.{Safe, Open, Notes, Marks}
 use Rattle.area.proofs.Lending.{buffer, lent}
 use Rattle.cells.specs.declared.defs.Def.{Def}
-use Rattle.cells.specs.declared.Put.TheVariants.{Stored, Unfit, FloatText}
 use Rattle.cells.specs.Names.{def_of, member_of}
 use Rattle.cells.specs.Cells.{Puts}
 use Rattle.cells.specs.declared.plan.Plan.{Plan}
-use Rattle.cells.specs.Plans.{cell_member, plain_member, planned, Knows, PlansKind}
+use Rattle.cells.specs.Plans.{cell_member, plain_member, planned, Known, Knows, PlansKind}
 use Rattle.members.specs.declared.Wrote.{Wrote}
 use Rattle.members.specs.declared.Wrote.TheVariants.{Done, Refused}
 use Rattle.members.specs.Posts.{remark_on, Buffer, Went, Fills, Marked, any_schema}
@@ -135,21 +135,21 @@ module _ (R : Round) (n : ℕ) (p : Progress) (w : Bytes) where
       (said known d.size F d m 1 d.size q w' h o t)
 
   -- a wrong value: a missing member gives no remark
-  pub wrong_missing : (known : Schema → Type 0) (size : ℕ) (d : StructDef) (e : Defs.Member) → Safe R n p → Fills known R n p w size (λ S buf. wrong d e none buf) (Done p) w
+  pub wrong_missing : (known : Schema → Type 0) (size : ℕ) (d : StructDef) (e : Defs.Member) → Safe R n p → Fills known R n p w size (λ S buf. wrong d e None buf) (Done p) w
   unfolding wrong opt_m
   wrong_missing known size d e h = stays known size h
 
   pub wrong_value : (known : Schema → Type 0) (size : ℕ) (F : Bytes) (d : Def) (m : coded.Member) (r : ℕ) (q : Progress) (w' : Bytes) → Safe R n p → Open p
-      → Notes R n p w (remark_on d m 2 (Kinds.type_number m.kind)) q w' → Fills known R n p w size (λ S buf. wrong (def_of F d) (member_of m) (some r) buf) (Done q) w'
+      → Notes R n p w (remark_on d m 2 (Kinds.type_number m.kind)) q w' → Fills known R n p w size (λ S buf. wrong (def_of F d) (member_of m) (Some r) buf) (Done q) w'
   unfolding wrong opt_m
   wrong_value known size F d m r q w' h o t = said known size F d m 2 (Kinds.type_number m.kind) q w' h o t
 
   -- bytes were stored in the buffer, which was lent for it; then the enum was used, where it is known
-  stored_bytes : (known : Bool) (name size : ℕ) (bs : Bytes) (off at len : ℕ) (c : Bytes) (q : Progress) (w' : Bytes) → Safe R n p → at + len ≡ p.top → len ≡ size
-      → c ≡ over (take len (drop at w)) off bs → length c ≡ len → Marked R n p (put_mid at len w c) known name q w'
-      → Fills (λ S. known ≡ true → is_some ((winning S).enum name) ≡ true) R n p w size (λ S buf. bind (if_m known (use_enum name) (ret tt)) λ _. ret (over buf off bs)) (Done q) w'
-  unfolding bind after ret if_m use_enum log_enum on_core settle use_enum_c
-  stored_bytes known name size bs off at len c q w' h e f g l m = go known refl m
+  stored_bytes : (name : Option ℕ) (size : ℕ) (bs : Bytes) (off at len : ℕ) (c : Bytes) (q : Progress) (w' : Bytes) → Safe R n p → at + len ≡ p.top → len ≡ size
+      → c ≡ over (take len (drop at w)) off bs → length c ≡ len → Marked R n p (put_mid at len w c) name q w'
+      → Fills (Known name) R n p w size (λ S buf. bind (opt_m name (ret tt) use_enum) λ _. ret (over buf off bs)) (Done q) w'
+  unfolding bind after ret opt_m use_enum log_enum on_core settle use_enum_c
+  stored_bytes name size bs off at len c q w' h e f g l m = go name m
     where
       inside : p.top ≤ n
       inside = omega (arith, h)
@@ -160,43 +160,43 @@ module _ (R : Round) (n : ℕ) (p : Progress) (w : Bytes) where
       put : (S : Schema) (s : State) (σ buf : Bytes) → length buf ≡ size → Rep S R n s (σ ++ buf) p w → Rep S R n s (σ ++ over buf off bs) p (put_mid at len w c)
       put S s σ buf i r = rw g (lent S R n σ buf at len (λ b. over b off bs) r inside e (i ∙ sym f) (same S s σ buf i r))
 
-      go : (b : Bool) → known ≡ b → Marked R n p (put_mid at len w c) b name q w'
-          → Fills (λ S. b ≡ true → is_some ((winning S).enum name) ≡ true) R n p w size (λ S buf. bind (if_m b (use_enum name) (ret tt)) λ _. ret (over buf off bs)) (Done q) w'
-      go true u t =
+      go : (o : Option ℕ) → Marked R n p (put_mid at len w c) o q w'
+          → Fills (Known o) R n p w size (λ S buf. bind (opt_m o (ret tt) use_enum) λ _. ret (over buf off bs)) (Done q) w'
+      go (Some x) t =
           record {
-            grew = went_marked (λ S. is_some ((winning S).enum name)) (used_in name) (put_mid at len w c) q w' 1 h (t.0 refl);
-            says = λ S k s σ buf i r. ((t.0 refl).says S s (σ ++ over buf off bs) (k refl) (put S s σ buf i r), same S s σ buf i r ∙ f);
+            grew = went_marked (λ S. is_some ((winning S).enum x)) (used_in x) (put_mid at len w c) q w' 1 h t;
+            says = λ S k s σ buf i r. (t.says S s (σ ++ over buf off bs) (k x refl) (put S s σ buf i r), same S s σ buf i r ∙ f);
           }
-      go false u t =
+      go None t =
           record {
-            grew = rw (t.1 refl).0 (went_same h 1);
-            says = λ S k s σ buf i r. rw ((t.1 refl).0, (t.1 refl).1) (put S s σ buf i r, same S s σ buf i r ∙ f);
+            grew = rw t.0 (went_same h 1);
+            says = λ S k s σ buf i r. rw (t.0, t.1) (put S s σ buf i r, same S s σ buf i r ∙ f);
           }
 
   -- a member that is a cell of k bytes
-  module _ (T F : Bytes) (d : Def) (m : coded.Member) (v : Value) (k : ℕ) (cell : Row → Fit Bytes) (known : Bool) (name : ℕ) where
+  module _ (T F : Bytes) (d : Def) (m : coded.Member) (v : Value) (k : ℕ) (cell : Row → Fit Bytes) (name : Option ℕ) where
     abbrev cells : Schema → Bytes → M Bytes
-    cells S buf = cell_member (env_of T S R) k cell known name (def_of F d) (member_of m) v buf
+    cells S buf = cell_member (env_of T S R) k cell name (def_of F d) (member_of m) v buf
 
     abbrev found : Schema → Type 0
-    found S = known ≡ true → is_some ((winning S).enum name) ≡ true
+    found S = Known name S
 
     -- it does not fit the structure
     pub cell_long : (q : Progress) (w' : Bytes) → Safe R n p → Open p → leb (m.offset + k) d.size ≡ false → Notes R n p w (remark_on d m 1 d.size) q w' → Fills found R n p w d.size cells (Done q) w'
     unfolding cell_member
     cell_long q w' h o e t =
-        too_long found F d m k (λ S buf. fit_m (cell (value_row T v)) (wrong (def_of F d) (member_of m) v buf) λ bs. bind (if_m known (use_enum name) (ret tt)) λ _. ret (over buf m.offset bs)) q w' h o e t
+        too_long found F d m k (λ S buf. fit_m (cell (value_row T v)) (wrong (def_of F d) (member_of m) v buf) λ bs. bind (opt_m name (ret tt) use_enum) λ _. ret (over buf m.offset bs)) q w' h o e t
 
     -- it fits; the structure's bytes are lent
     module _ (row : Row) (is : row ≡ value_row T v) (yes : leb (m.offset + k) d.size ≡ true) (c : Bytes) where
       cell_is : (x : Fit Bytes) → cell row ≡ x → (S : Schema) (buf : Bytes) (s : State)
-          → cells S buf s ≡ fit_m x (wrong (def_of F d) (member_of m) v buf) (λ bs. bind (if_m known (use_enum name) (ret tt)) λ _. ret (over buf m.offset bs)) s
+          → cells S buf s ≡ fit_m x (wrong (def_of F d) (member_of m) v buf) (λ bs. bind (opt_m name (ret tt) use_enum) λ _. ret (over buf m.offset bs)) s
       unfolding cell_member
       cell_is x e S buf s =
           ap (λ (a : M Bytes). a s)
-          (need_yes (def_of F d) (member_of m) k buf (fit_m (cell (value_row T v)) (wrong (def_of F d) (member_of m) v buf) λ bs. bind (if_m known (use_enum name) (ret tt)) λ _. ret (over buf m.offset bs))
+          (need_yes (def_of F d) (member_of m) k buf (fit_m (cell (value_row T v)) (wrong (def_of F d) (member_of m) v buf) λ bs. bind (opt_m name (ret tt) use_enum) λ _. ret (over buf m.offset bs))
           (rw (def_size F d) yes)
-          ∙ ap (λ (y : Fit Bytes). fit_m y (wrong (def_of F d) (member_of m) v buf) λ bs. bind (if_m known (use_enum name) (ret tt)) λ _. ret (over buf m.offset bs)) (ap cell (sym is) ∙ e))
+          ∙ ap (λ (y : Fit Bytes). fit_m y (wrong (def_of F d) (member_of m) v buf) λ bs. bind (opt_m name (ret tt) use_enum) λ _. ret (over buf m.offset bs)) (ap cell (sym is) ∙ e))
 
       abbrev low : ℕ
       low = p.top - d.size
@@ -208,51 +208,50 @@ module _ (R : Round) (n : ℕ) (p : Progress) (w : Bytes) where
       part = take wide (drop low w)
 
       -- it was stored
-      pub cell_stored : (q : Progress) (w' : Bytes) → Safe R n p → Buffer R p d.size → n ≡ length w → Puts (cell row) part m.offset Stored c → length c ≡ length part
-          → Marked R (length (put_mid low wide w c)) p (put_mid low wide w c) known name q w' → Fills found R n p w d.size cells (Done q) w'
+      pub cell_stored : (q : Progress) (w' : Bytes) → Safe R n p → Buffer R p d.size → n ≡ length w → Puts (cell row) part m.offset (Ok tt) c → length c ≡ length part
+          → Marked R (length (put_mid low wide w c)) p (put_mid low wide w c) name q w' → Fills found R n p w d.size cells (Done q) w'
       unfolding fit_m
       cell_stored q w' h b i u l t = go (cell row) refl u
         where
           long : length c ≡ wide
           long = l ∙ mid_len low p.top w (omega (arith, h))
 
-          go : (x : Fit Bytes) → cell row ≡ x → Puts x part m.offset Stored c → Fills found R n p w d.size cells (Done q) w'
-          go (fits bs) g y =
-              fills_as found found d.size cells (λ S buf. bind (if_m known (use_enum name) (ret tt)) λ _. ret (over buf m.offset bs)) (Done q) w'
-              (λ S z. (z, λ buf s. cell_is (fits bs) g S buf s))
-              (stored_bytes known name d.size bs m.offset low wide c q w' h (omega (arith, b)) (omega (arith, b)) y long
-              (subst (λ (o : ℕ). Marked R o p (put_mid low wide w c) known name q w') (same_len_mid low wide w c l ∙ sym i) t))
-          go unfit g y = absurd y
-          go float_text g y = absurd y
+          go : (x : Fit Bytes) → cell row ≡ x → Puts x part m.offset (Ok tt) c → Fills found R n p w d.size cells (Done q) w'
+          go (Ok bs) g y =
+              fills_as found found d.size cells (λ S buf. bind (opt_m name (ret tt) use_enum) λ _. ret (over buf m.offset bs)) (Done q) w'
+              (λ S z. (z, λ buf s. cell_is (Ok bs) g S buf s))
+              (stored_bytes name d.size bs m.offset low wide c q w' h (omega (arith, b)) (omega (arith, b)) y long
+              (subst (λ (o : ℕ). Marked R o p (put_mid low wide w c) name q w') (same_len_mid low wide w c l ∙ sym i) t))
+          go (Err e) g y = absurd y
 
       -- it did not coerce
-      pub cell_wrong : (r : Wrote) (w' : Bytes) → n ≡ length w → Puts (cell row) part m.offset Unfit c
+      pub cell_wrong : (r : Wrote) (w' : Bytes) → n ≡ length w → Puts (cell row) part m.offset (Err Unfit) c
           → Fills any_schema R (length (put_mid low wide w c)) p (put_mid low wide w c) d.size (λ S buf. wrong (def_of F d) (member_of m) v buf) r w' → Fills found R n p w d.size cells r w'
       unfolding fit_m
       cell_wrong r w' i u a = go (cell row) refl u
         where
-          go : (x : Fit Bytes) → cell row ≡ x → Puts x part m.offset Unfit c → Fills found R n p w d.size cells r w'
-          go unfit g y =
-              fills_as found any_schema d.size cells (λ S buf. wrong (def_of F d) (member_of m) v buf) r w' (λ S z. (tt, λ buf s. cell_is unfit g S buf s))
+          go : (x : Fit Bytes) → cell row ≡ x → Puts x part m.offset (Err Unfit) c → Fills found R n p w d.size cells r w'
+          go (Err Unfit) g y =
+              fills_as found any_schema d.size cells (λ S buf. wrong (def_of F d) (member_of m) v buf) r w' (λ S z. (tt, λ buf s. cell_is (Err Unfit) g S buf s))
               (subst (λ (o : ℕ). Fills any_schema R o p w d.size (λ S buf. wrong (def_of F d) (member_of m) v buf) r w') (sym i)
-              (subst (λ (o : Bytes). Fills any_schema R (length o) p o d.size (λ S buf. wrong (def_of F d) (member_of m) v buf) r w') (ap (put_mid low wide w) y ∙ put_same low wide w) a))
-          go (fits bs) g y = absurd y
-          go float_text g y = absurd y
+              (subst (λ (o : Bytes). Fills any_schema R (length o) p o d.size (λ S buf. wrong (def_of F d) (member_of m) v buf) r w') (ap (put_mid low wide w) y.1 ∙ put_same low wide w) a))
+          go (Ok bs) g y = absurd y
+          go (Err FloatText) g y = cc
 
       -- a float's text
-      pub cell_refused : Safe R n p → Puts (cell row) part m.offset FloatText c → Fills found R n p w d.size cells (Refused 11 p) (put_mid low wide w c)
+      pub cell_refused : Safe R n p → Puts (cell row) part m.offset (Err FloatText) c → Fills found R n p w d.size cells (Refused 11 p) (put_mid low wide w c)
       unfolding fit_m fail
       cell_refused h u = go (cell row) refl u
         where
-          go : (x : Fit Bytes) → cell row ≡ x → Puts x part m.offset FloatText c → Fills found R n p w d.size cells (Refused 11 p) (put_mid low wide w c)
-          go float_text g y =
+          go : (x : Fit Bytes) → cell row ≡ x → Puts x part m.offset (Err FloatText) c → Fills found R n p w d.size cells (Refused 11 p) (put_mid low wide w c)
+          go (Err FloatText) g y =
               record {
                 grew = h;
                 says = λ S z s σ buf l q.
-                    rw (cell_is float_text g S buf s, ap (put_mid low wide w) y ∙ put_same low wide w) (refl, record { state = s; stack = σ ++ buf; rep = q; met = refl });
+                    rw (cell_is (Err FloatText) g S buf s, ap (put_mid low wide w) y.1 ∙ put_same low wide w) (refl, record { state = s; stack = σ ++ buf; rep = q; met = refl });
               }
-          go (fits bs) g y = absurd y
-          go unfit g y = absurd y
+          go (Ok bs) g y = absurd y
+          go (Err Unfit) g y = cc
 
 -- there is room for a cell that fits
 pub part_room : (w : Bytes) (top size off k : ℕ) → top ≤ length w → size ≤ top → off + k ≤ size → off + k ≤ length (take (top - (top - size)) (drop (top - size) w))
@@ -260,9 +259,9 @@ part_room w top size off k h g l = omega (arith, mid_len (top - size) top w h)
 
 -- the member is written as planned
 pub as_planned : (F : Bytes) (d : Def) (m : coded.Member) (R : Round) (n : ℕ) (p : Progress) (w T : Bytes) (v : Value) (k : Kinds.Kind) (pl x : Plan) → PlansKind F d m k pl → pl ≡ x → (r : Wrote) (w' : Bytes)
-    → Fills (λ S. Knows S x) R n p w d.size (λ S buf. planned T F (env_of T S R) x (def_of F d) (member_of m) v buf) r w'
+    → Fills (λ S. Knows S x) R n p w d.size (λ S buf. planned T (env_of T S R) x (def_of F d) (member_of m) v buf) r w'
     → Fills (λ S. schema_of F ≡ ok S) R n p w d.size (λ S buf. plain_member (env_of T S R) (def_of F d) (member_of m) k v buf) r w'
 as_planned F d m R n p w T v k pl x a q r w' b =
     let g : PlansKind F d m k x = subst (PlansKind F d m k) q a in
     fills_as R n p w (λ S. schema_of F ≡ ok S) (λ S. Knows S x) d.size (λ S buf. plain_member (env_of T S R) (def_of F d) (member_of m) k v buf)
-    (λ S buf. planned T F (env_of T S R) x (def_of F d) (member_of m) v buf) r w' (λ S y. (g.knows S y, λ buf s. g.is T R S y v buf s)) b
+    (λ S buf. planned T (env_of T S R) x (def_of F d) (member_of m) v buf) r w' (λ S y. (g.knows S y, λ buf s. g.is T R S y v buf s)) b

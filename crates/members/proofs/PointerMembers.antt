@@ -1,15 +1,14 @@
 -- Members that are texts by pointer. No line here names a place of the code. Assumes nothing.
+use Rattle.std.specs.Prelude.{Option, Some, None, is_some, unwrap_or}
 use mathlib.Core.Path.{◌≡◌, refl, sym, ap, subst, ◌∙◌}
 use mathlib.Core.Bool.{Bool, true, false, cond, ◌||◌, ◌&&◌, false≢true}
 use mathlib.Core.List.{[], ◌++◌}
-use mathlib.Core.Option.{Option, none, some}
 use Prim.Native.Nat.{ℕ, ◌+◌, ◌-◌, ◌^◌, ◌≤◌, ◌<◌}
 use native.Mathlib.Omega.{arith}
 use lib.Dec.{leb, eqb}
 use lib.ListN.{length, drop, length-append}
 use borrow.Author.Tests.{leb-true}
 use Rattle.numbers.specs.Words.{Bytes}
-use Rattle.numbers.specs.Result.{is_some, or_value}
 use Rattle.value.specs.Rows.{Value, Row, value_row, text_area, text_of}
 use Rattle.coerce.specs.Numbers.{str_of}
 use Rattle.coerce.specs.Answer.{nothing}
@@ -31,20 +30,20 @@ use Rattle.members.specs.Posts.{remark_on, Buffer, Went, Fills, Slots, wrote_is,
 use Rattle.members.proofs.Filling.{def_size, need_yes, fills_as, too_long}
 
 -- what is there or not
-is_none : {A : Type 0} (o : Option A) → is_some o ≡ false → o ≡ none
-is_none none e = refl
-is_none (some a) e = absurd (false≢true (sym e))
+is_none : {A : Type 0} (o : Option A) → is_some o ≡ false → o ≡ None
+is_none None e = refl
+is_none (Some a) e = absurd (false≢true (sym e))
 
-is_some_law : {A : Type 0} (o : Option A) (d : A) → is_some o ≡ true → o ≡ some (or_value o d)
-is_some_law (some a) d e = refl
-is_some_law none d e = absurd (false≢true e)
+is_some_law : {A : Type 0} (o : Option A) (d : A) → is_some o ≡ true → o ≡ Some (unwrap_or o d)
+is_some_law (Some a) d e = refl
+is_some_law None d e = absurd (false≢true e)
 
 -- a row's text is no longer than its number says
-pub text_short : (T : Bytes) (v : Row) (t : Bytes) → v.b < 2 ^ 32 → t ≡ or_value (str_of T v) nothing → length t < 2 ^ 40
+pub text_short : (T : Bytes) (v : Row) (t : Bytes) → v.b < 2 ^ 32 → t ≡ unwrap_or (str_of T v) nothing → length t < 2 ^ 40
 unfolding str_of text_of
 text_short T v t h e = rw e (go (eqb v.kind 15) (eqb v.kind 0 || (eqb v.kind 14 && eqb v.a 0)))
   where
-    go : (a b : Bool) → length (or_value (cond a (some (text_of T v)) (cond b (some []) none)) nothing) < 2 ^ 40
+    go : (a b : Bool) → length (unwrap_or (cond a (Some (text_of T v)) (cond b (Some []) None)) nothing) < 2 ^ 40
     go true b = omega (arith, take_fits v.b (drop v.a (text_area T)))
     go false true = omega arith
     go false false = omega arith
@@ -78,10 +77,10 @@ module _ (R : Round) (n : ℕ) (p : Progress) (w T F : Bytes) (d : Def) (m : cod
     unfolding opt_m
     pointer_wrong r w' g a =
         fills_as R n p w any_schema any_schema d.size (λ S buf. pointer_member (env_of T S R) D e v buf) (λ S buf. wrong D e v buf) r w'
-        (λ S z. (z, λ buf s. pointer_is none (is_none (str_of T row) g) S buf s)) a
+        (λ S z. (z, λ buf s. pointer_is None (is_none (str_of T row) g) S buf s)) a
 
     -- .. whose slot is filled
-    pub pointer_slot : (t : Bytes) (r : Wrote) (w' : Bytes) → is_some (str_of T row) ≡ true → t ≡ or_value (str_of T row) nothing → Buffer R p d.size
+    pub pointer_slot : (t : Bytes) (r : Wrote) (w' : Bytes) → is_some (str_of T row) ≡ true → t ≡ unwrap_or (str_of T row) nothing → Buffer R p d.size
         → Slots R n p w m.subtype t (p.top - d.size + m.offset) r w' → Fills any_schema R n p w d.size (λ S buf. pointer_member (env_of T S R) D e v buf) r w'
     unfolding opt_m
     pointer_slot t r w' g f b a = record { grew = grew r a.grew; says = says }
@@ -95,7 +94,7 @@ module _ (R : Round) (n : ℕ) (p : Progress) (w T F : Bytes) (d : Def) (m : cod
         says S z s σ buf l q =
             let u : length (σ ++ buf) ≡ length σ + length buf = length-append σ buf in
             let y : m.offset + slot_size m.subtype ≤ d.size = leb-true (m.offset + slot_size m.subtype) d.size yes in
-            let i : str_of T row ≡ some t = is_some_law (str_of T row) nothing g ∙ ap some (sym f) in
-            rw (pointer_is (some t) i S buf s)
+            let i : str_of T row ≡ Some t = is_some_law (str_of T row) nothing g ∙ ap Some (sym f) in
+            rw (pointer_is (Some t) i S buf s)
             (subst (λ (k : ℕ). Meets S R n (λ b. σ ++ b) (λ b x. length b ≡ k) (text_slot (env_of T S R) m.subtype t buf m.offset s) (wrote_is r) w') l
             (a.says S T s σ buf m.offset (omega (arith, q.top, b)) (omega arith) q))

@@ -1,9 +1,7 @@
 -- What the contracts say of members.
-use Rattle.std.specs.Prelude.{ℕ, ◌+◌, ◌-◌, ◌≤◌, ◌≡◌, Bool, true, false, cond, ◌++◌, leb, length}
+use Rattle.std.specs.Prelude.{ℕ, ◌+◌, ◌-◌, ◌≤◌, ◌≡◌, cond, ◌++◌, leb, length, Option, Some, None, is_some}
 use Rattle.numbers.specs.Words.{Bytes, over, zeros}
-use Rattle.numbers.specs.Result.{is_some}
-use Rattle.value.specs.declared.Found.{Found}
-use Rattle.value.specs.declared.Found.TheVariants as F
+use Rattle.value.specs.Rows.{Value}
 use Rattle.schema.specs.Defs.{Schema, winning}
 use Rattle.definitions.specs.declared.members.Member as coded
 use Rattle.layout.specs.State.{Remark, State, M}
@@ -22,9 +20,9 @@ abbrev pub remark_on : Def → coded.Member → ℕ → ℕ → Remark
 remark_on d m kind detail = record { kind = kind; structure = d.name; member = m.name; detail = detail }
 
 -- remark 2 is met, unless the member is missing
-abbrev pub wrong_in : Round → Progress → Bytes → Def → coded.Member → Found → Wrote × Bytes
-wrong_in R p w d m (F.At r) = let x = noted_in R p w (remark_on d m 2 (type_number m.kind)) in (Done x.0, x.1)
-wrong_in R p w d m F.Missing = (Done p, w)
+abbrev pub wrong_in : Round → Progress → Bytes → Def → coded.Member → Value → Wrote × Bytes
+wrong_in R p w d m (Some r) = let x = noted_in R p w (remark_on d m 2 (type_number m.kind)) in (Done x.0, x.1)
+wrong_in R p w d m None = (Done p, w)
 
 -- the charge paid, or refusal 9
 abbrev pub paid_is : Round → Progress → ℕ → Wrote
@@ -59,10 +57,10 @@ pub record Slots (R : Round) (n : ℕ) (p : Progress) (w : Bytes) (sub : ℕ) (t
   pub says : (S : Schema) (T : Bytes) (s : State) (σ buf : Bytes) (off : ℕ) → stack_at R + length σ + off ≡ at → off + members.slot_size sub ≤ length buf → Rep S R n s (σ ++ buf) p w
       → Meets S R n (λ b. σ ++ b) (λ b x. length b ≡ length buf) (members.text_slot (env_of T S R) sub t buf off s) (wrote_is r) w'
 
--- an enum is used, where it is known
-abbrev pub Marked : Round → ℕ → Progress → Bytes → Bool → ℕ → Progress → Bytes → Type 0
-Marked R n p w known name q w' =
-    (known ≡ true → Marks R n p w (λ S. is_some ((winning S).enum name)) (used_in name) q w') × (known ≡ false → (q ≡ p) × (w' ≡ w))
+-- the enum of the name is used, where there is one
+abbrev pub Marked : Round → ℕ → Progress → Bytes → Option ℕ → Progress → Bytes → Type 0
+Marked R n p w None q w' = (q ≡ p) × (w' ≡ w)
+Marked R n p w (Some name) q w' = Marks R n p w (λ S. is_some ((winning S).enum name)) (used_in name) q w'
 
 -- what stands from `base` on is taken off the stack
 pub record Fell (p : Progress) (base : ℕ) (w : Bytes) (q : Progress) (w' : Bytes) : Type 0 where

@@ -12,20 +12,14 @@ ghost use Rattle.members.specs.Posts.{remark_on, paid_is, Fell};
 use area::notes::note;
 use area::{Progress, Round};
 use cells::defs::Def;
-use definitions::lookup::{Found, find_structure};
+use definitions::lookup::find;
 use definitions::members::{Member, read_head};
 use layout::Remark;
 use numbers::words::clear;
+use schema::kind::Kind;
 
 pub mod member;
 pub mod slots;
-
-// The definition that a name stands for, or none.
-#[derive(Clone, Copy)]
-pub enum Looked {
-    At(Def),
-    Missing,
-}
 
 // A writer has written, or a refusal.
 #[derive(Clone, Copy)]
@@ -35,24 +29,18 @@ pub enum Wrote {
 }
 
 // The structure that a name stands for.
-pub fn look_up(schema: &[u8], name: u32) -> Looked
+pub fn look_up(schema: &[u8], name: u32) -> Option<Def>
     ensures value { result ≡ looked_up schema.now name }
     ensures name_value { (S : Schema) → schema_of schema.now ≡ ok S → (winning S).struct name ≡ looked_is schema.now result }
 {
-    match find_structure(schema, name) {
-        Found::Nothing => Looked::Missing,
-        Found::At(place) => {
-            let h = read_head(schema, place);
-            let size = h.size;
-            let count = h.count;
-            Looked::At(Def {
-                name: name,
-                place: place,
-                size: size,
-                count: count,
-            })
-        }
-    }
+    let place = find(schema, Kind::Structure, name)?;
+    let head = read_head(schema, place);
+    Some(Def {
+        name,
+        place,
+        size: head.size,
+        count: head.count,
+    })
 }
 
 // A remark on member m of structure d.

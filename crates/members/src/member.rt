@@ -1,8 +1,7 @@
 // Members that lead to no structure. The structure's bytes so far are the top of the stack.
-ghost use Rattle.std.specs.Prelude.{◌≡◌, true, ◌+◌, ◌<◌, ◌^◌, leb, length};
+ghost use Rattle.std.specs.Prelude.{◌≡◌, true, ◌+◌, ◌<◌, ◌^◌, leb, length, is_some};
 ghost use Rattle.numbers.specs.Words.{Bytes};
-ghost use Rattle.numbers.specs.Result.{ok, is_some};
-ghost use Rattle.value.specs.Answer.{value_is};
+ghost use Rattle.numbers.specs.Result.{ok};
 ghost use Rattle.schema.specs.Defs.{winning};
 ghost use Rattle.schema.specs.Psch.{schema_of};
 ghost use Rattle.layout.specs.Kinds;
@@ -11,7 +10,7 @@ ghost use Rattle.area.specs.Area.{env_of};
 ghost use Rattle.area.specs.Posts.{Safe, Open};
 ghost use Rattle.cells.specs.Names.{def_of, member_of};
 ghost use Rattle.cells.specs.Cells.{Sane, cell_size, cell_bytes};
-ghost use Rattle.cells.specs.Plans.{cell_member, plain_member};
+ghost use Rattle.cells.specs.Plans.{Known, cell_member, plain_member};
 ghost use Rattle.members.specs.Posts.{wrong_in, Buffer, Fills, Marked, any_schema};
 
 use crate::slots::{slot_size, text_slot};
@@ -21,10 +20,11 @@ use area::{Progress, Round};
 use cells::defs::Def;
 use cells::kinds::type_number;
 use cells::plan::{Plan, plan_of};
-use cells::{Cell, Put, put_cell};
+use cells::{Cell, put_cell};
+use coerce::misfit::Misfit;
 use coerce::whole::{has_str, str_of};
 use definitions::members::Member;
-use value::{Found, value_row};
+use value::value_row;
 
 // Whether n bytes at the member's offset lie in the structure.
 pub fn fits(d: Def, m: Member, n: usize) -> bool
@@ -37,52 +37,57 @@ pub fn fits(d: Def, m: Member, n: usize) -> bool
 }
 
 // Remark 2, unless the member is missing.
-pub fn wrong(work: &mut [u8], round: Round, p: Progress, d: Def, m: Member, v: Found) -> Wrote
+pub fn wrong(
+    work: &mut [u8],
+    round: Round,
+    p: Progress,
+    d: Def,
+    m: Member,
+    v: Option<usize>,
+) -> Wrote
     requires { Safe round (length work.old) p × Open p }
     ensures fills { (F : Bytes) → Fills any_schema round (length work.old) p work.old d.size
-        (λ S buf. Members.wrong (def_of F d) (member_of m) (value_is v) buf) result work.new }
+        (λ S buf. Members.wrong (def_of F d) (member_of m) v buf) result work.new }
     ensures work_after { (result, work.new) ≡ wrong_in round p work.old d m v }
 {
     match v {
-        Found::Missing => Wrote::Done(p),
-        Found::At(r) => {
+        None => Wrote::Done(p),
+        Some(r) => {
             let n = type_number(m.kind);
             Wrote::Done(say(work, round, p, d, m, 2, n))
         }
     }
 }
 
-// An enum is used, where it is known.
-fn used(work: &mut [u8], round: Round, p: Progress, known: bool, name: u32) -> Progress
+// The enum of the name is used, where there is one.
+pub fn used(work: &mut [u8], round: Round, p: Progress, name: Option<u32>) -> Progress
     requires { Safe round (length work.old) p }
-    ensures { Marked round (length work.old) p work.old known name result work.new }
+    ensures { Marked round (length work.old) p work.old name result work.new }
 {
-    if known {
-        return use_enum(work, round, p, name);
+    match name {
+        Some(name) => use_enum(work, round, p, name),
+        None => p,
     }
-    p
 }
 
-// A member that is a cell of `need` bytes; where it is stored, the enum of the name is used, if known.
+// A member that is a cell of `need` bytes; where it is stored, the enum of the name is used, if there is one.
 fn write_cell(
     sheet: &[u8],
-    schema: &[u8],
     work: &mut [u8],
     round: Round,
     p: Progress,
     d: Def,
     m: Member,
-    v: Found,
-    cell: Cell,
+    v: Option<usize>,
+    cell: Cell<'_>,
     need: usize,
-    known: bool,
-    name: u32,
+    name: Option<u32>,
 ) -> Wrote
     requires safe { Safe round (length work.old) p × Open p }
     requires buffer { Buffer round p d.size × Sane cell × (cell_size cell ≡ need) × (need < 2 ^ 40) }
-    ensures { Fills (λ S. known ≡ true → is_some ((winning S).enum name) ≡ true) round (length work.old) p work.old d.size
-        (λ S buf. cell_member (env_of sheet.now S round) need (cell_bytes sheet.now schema.now cell) known name
-        (def_of schema.now d) (member_of m) (value_is v) buf) result work.new }
+    ensures { (F : Bytes) → Fills (Known name) round (length work.old) p work.old d.size
+        (λ S buf. cell_member (env_of sheet.now S round) need (cell_bytes sheet.now cell.entry) name
+        (def_of F d) (member_of m) v buf) result work.new }
 {
     if !fits(d, m, need) {
         return Wrote::Done(say(work, round, p, d, m, 1, d.size));
@@ -91,10 +96,10 @@ fn write_cell(
     let off = m.offset as usize;
     let stop = p.top;
     let at = stop - (d.size as usize);
-    match put_cell(sheet, schema, &mut work[at..stop], off, cell, row) {
-        Put::Stored => Wrote::Done(used(work, round, p, known, name)),
-        Put::Unfit => wrong(work, round, p, d, m, v),
-        Put::FloatText => Wrote::Refused(11, p),
+    match put_cell(sheet, &mut work[at..stop], off, cell, row) {
+        Ok(()) => Wrote::Done(used(work, round, p, name)),
+        Err(Misfit::Unfit) => wrong(work, round, p, d, m, v),
+        Err(Misfit::FloatText) => Wrote::Refused(11, p),
     }
 }
 
@@ -107,12 +112,12 @@ fn write_pointer(
     p: Progress,
     d: Def,
     m: Member,
-    v: Found,
+    v: Option<usize>,
 ) -> Wrote
     requires safe { Safe round (length work.old) p × Open p }
     requires buffer { Buffer round p d.size }
     ensures { Fills any_schema round (length work.old) p work.old d.size
-        (λ S buf. Members.pointer_member (env_of sheet.now S round) (def_of schema.now d) (member_of m) (value_is v) buf) result work.new }
+        (λ S buf. Members.pointer_member (env_of sheet.now S round) (def_of schema.now d) (member_of m) v buf) result work.new }
 {
     if !fits(d, m, slot_size(m.subtype)) {
         return Wrote::Done(say(work, round, p, d, m, 1, d.size));
@@ -134,17 +139,17 @@ pub fn write_plain(
     p: Progress,
     d: Def,
     m: Member,
-    v: Found,
+    v: Option<usize>,
 ) -> Wrote
     requires safe { Safe round (length work.old) p × Open p }
     requires buffer { Buffer round p d.size }
     ensures { Fills (λ S. schema_of schema.now ≡ ok S) round (length work.old) p work.old d.size
-        (λ S buf. plain_member (env_of sheet.now S round) (def_of schema.now d) (member_of m) (Kinds.kind_of m.kind) (value_is v) buf) result work.new }
+        (λ S buf. plain_member (env_of sheet.now S round) (def_of schema.now d) (member_of m) (Kinds.kind_of m.kind) v buf) result work.new }
 {
     match plan_of(schema, d, m) {
-        Plan::Store(cell, need, known, name) => write_cell(
-            sheet, schema, work, round, p, d, m, v, cell, need, known, name,
-        ),
+        Plan::Store(cell, need, name) => {
+            write_cell(sheet, work, round, p, d, m, v, cell, need, name)
+        }
         Plan::Pointer => write_pointer(sheet, schema, work, round, p, d, m, v),
         Plan::Nothing => Wrote::Done(p),
         Plan::Remark(kind, detail) => Wrote::Done(say(work, round, p, d, m, kind, detail)),

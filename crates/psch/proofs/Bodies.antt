@@ -1,33 +1,32 @@
 -- A definition's bytes are those that stand in the schema file, but for the 4 before a structure's members. Assumes nothing.
+use Rattle.schema.specs.declared.kind.Kind.{Kind}
+use Rattle.schema.specs.declared.kind.Kind.TheVariants.{Structure, Enum}
+use Rattle.std.specs.Prelude.{Option, Some, None, unwrap_or, option_map}
 use Prim.Native.Nat.{ℕ, zero, suc, ◌+◌, ◌-◌, ◌*◌, ◌^◌, ◌≤◌, ◌<◌}
 use native.Mathlib.Omega.{arith}
 use mathlib.Core.Path.{◌≡◌, refl, sym, ◌∙◌, ap, ap₂, subst}
-use mathlib.Core.Bool.{Bool, true, false}
 use mathlib.Core.List.{[], ◌∷◌, ◌++◌, map, append_assoc, append-nil}
-use mathlib.Core.Option.{Option, none, some}
 use lib.ListN.{length, take, drop, length-append, length-drop}
 use lib.Seq.{take-add, drop-drop, length-take-le}
 use Rattle.numbers.specs.Words.{Bytes, read_at, bytes_of, words, over, Octets}
 use Rattle.numbers.proofs.Bytes.{octets_take, octets_drop, bytes_number, length_bytes}
 use Rattle.schema.specs.Psch.{member_at, members_at, entries_at, struct_here, enum_here}
-use Rattle.numbers.specs.Result.{map_option, or_value}
 use Rattle.schema.specs.Index.{last_place}
-use Rattle.definitions.specs.Answers.{found_is, head_here}
+use Rattle.definitions.specs.Answers.{head_here}
 use Rattle.definitions.specs.declared.members.Head.{Head}
-use Rattle.definitions.specs.declared.lookup.Found.{Found}
-use Rattle.definitions.specs.declared.lookup.Found.TheVariants.{At, Nothing}
+use Rattle.schema.specs.Steps.{kind_number}
 use Rattle.schema.proofs.Places.{struct_count, enum_count}
 use Rattle.layout.specs.Assemble.{joined, member_bytes, struct_bytes, enum_bytes}
 use Rattle.layout.proofs.ReadDefs.{struct_length, enum_length, entry_bytes}
 use Rattle.area.proofs.Over.{over_seq}
-use Rattle.psch.specs.Used.{kind_of, definition_at, body_of, Lies, Stored}
+use Rattle.psch.specs.Used.{definition_at, body_of, Lies, Stored}
 
 -- lengths
 
-pub struct_size : (F : Bytes) (at : ℕ) → length (definition_at F false at) ≡ 12 + 12 * read_at 2 F (at + 2)
+pub struct_size : (F : Bytes) (at : ℕ) → length (definition_at F Structure at) ≡ 12 + 12 * read_at 2 F (at + 2)
 struct_size F at = omega (arith, struct_length (struct_here F 0 at), struct_count F 0 at)
 
-pub enum_size_law : (F : Bytes) (at : ℕ) → length (definition_at F true at) ≡ 4 + 8 * read_at 3 F (at + 1)
+pub enum_size_law : (F : Bytes) (at : ℕ) → length (definition_at F Enum at) ≡ 4 + 8 * read_at 3 F (at + 1)
 enum_size_law F at = omega (arith, enum_length (enum_here F 0 at), enum_count F 0 at)
 
 -- a paste behind a paste
@@ -89,7 +88,7 @@ module _ (F : Bytes) (o : Octets F) where
       ∙ ap₂ (λ (x y : Bytes). x ++ y) (entry_cut at (omega (arith, f))) (entries_cut n (at + 8) (λ _. omega (arith, f)))
 
   -- an enum is copied whole
-  enum_cut : (at : ℕ) → Lies F true at → cut F (4 + 8 * read_at 3 F (at + 1)) at ≡ definition_at F true at
+  enum_cut : (at : ℕ) → Lies F Enum at → cut F (4 + 8 * read_at 3 F (at + 1)) at ≡ definition_at F Enum at
   unfolding enum_bytes enum_here
   enum_cut at l =
       let n = read_at 3 F (at + 1) in
@@ -101,7 +100,7 @@ module _ (F : Bytes) (o : Octets F) where
       ∙ ap₂ (λ (x : ℕ) (y : Bytes). bytes_of 3 x ++ y) (sym (enum_count F 0 at)) (entries_cut n (at + 4) (l.within.entries refl)))
 
   -- a structure in two parts, with a zero between them
-  struct_cut : (at : ℕ) → Lies F false at → cut F 8 at ++ (bytes_of 4 0 ++ cut F (12 * read_at 2 F (at + 2)) (at + 12)) ≡ definition_at F false at
+  struct_cut : (at : ℕ) → Lies F Structure at → cut F 8 at ++ (bytes_of 4 0 ++ cut F (12 * read_at 2 F (at + 2)) (at + 12)) ≡ definition_at F Structure at
   unfolding struct_bytes struct_here words
   struct_cut at l =
       let n = read_at 2 F (at + 2) in
@@ -124,17 +123,17 @@ module _ (F : Bytes) (o : Octets F) where
 
 -- what `put_definition` wrote
 
-pub struct_least : (F : Bytes) (at len : ℕ) (k : Bool) → k ≡ false → len ≡ length (definition_at F k at) → 12 ≤ len
+pub struct_least : (F : Bytes) (at len : ℕ) (k : Kind) → k ≡ Structure → len ≡ length (definition_at F k at) → 12 ≤ len
 struct_least F at len k q e =
-    let f : len ≡ length (definition_at F false at) = e ∙ ap (λ (b : Bool). length (definition_at F b at)) q in
+    let f : len ≡ length (definition_at F Structure at) = e ∙ ap (λ (b : Kind). length (definition_at F b at)) q in
     omega (arith, f, struct_size F at)
 
 module _ (F : Bytes) (o : Octets F) (at len to : ℕ) where
-  enum_put : Lies F true at → len ≡ length (definition_at F true at) → (b b1 : Bytes) → b1 ≡ over b to (cut F len at) → b1 ≡ over b to (definition_at F true at)
+  enum_put : Lies F Enum at → len ≡ length (definition_at F Enum at) → (b b1 : Bytes) → b1 ≡ over b to (cut F len at) → b1 ≡ over b to (definition_at F Enum at)
   enum_put l e b b1 e1 = e1 ∙ ap (over b to) (ap (λ (k : ℕ). cut F k at) (e ∙ enum_size_law F at) ∙ enum_cut F o at l)
 
-  struct_put : Lies F false at → len ≡ length (definition_at F false at) → (b b1 b2 b3 : Bytes) → to + len ≤ length b
-      → b1 ≡ over b to (cut F 8 at) → b2 ≡ over b1 (to + 8) (bytes_of 4 0) → b3 ≡ over b2 (to + 12) (cut F (len - 12) (at + 12)) → b3 ≡ over b to (definition_at F false at)
+  struct_put : Lies F Structure at → len ≡ length (definition_at F Structure at) → (b b1 b2 b3 : Bytes) → to + len ≤ length b
+      → b1 ≡ over b to (cut F 8 at) → b2 ≡ over b1 (to + 8) (bytes_of 4 0) → b3 ≡ over b2 (to + 12) (cut F (len - 12) (at + 12)) → b3 ≡ over b to (definition_at F Structure at)
   struct_put l e b b1 b2 b3 h e1 e2 e3 =
       let A : Bytes = cut F 8 at in
       let Z : Bytes = bytes_of 4 0 in
@@ -148,49 +147,49 @@ module _ (F : Bytes) (o : Octets F) (at len to : ℕ) where
       let s3 : b3 ≡ over b to ((A ++ Z) ++ M) = over_next b b2 b3 to (to + 12) (A ++ Z) M s2 e3 (omega (arith, laz)) (omega (arith, laz, h, g)) in
       s3 ∙ ap (over b to) (append_assoc A Z M ∙ ap (λ (k : ℕ). A ++ (Z ++ cut F k (at + 12))) n ∙ struct_cut F o at l)
 
-  pub enum_written : (k : Bool) → k ≡ true → Lies F k at → len ≡ length (definition_at F k at) → (b b1 : Bytes) → b1 ≡ over b to (cut F len at) → b1 ≡ over b to (definition_at F k at)
+  pub enum_written : (k : Kind) → k ≡ Enum → Lies F k at → len ≡ length (definition_at F k at) → (b b1 : Bytes) → b1 ≡ over b to (cut F len at) → b1 ≡ over b to (definition_at F k at)
   enum_written k q l e b b1 e1 = rw q (enum_put (rw q at l) (rw q at e) b b1 e1)
 
-  pub struct_written : (k : Bool) → k ≡ false → Lies F k at → len ≡ length (definition_at F k at) → (b b1 b2 b3 : Bytes) → to + len ≤ length b
+  pub struct_written : (k : Kind) → k ≡ Structure → Lies F k at → len ≡ length (definition_at F k at) → (b b1 b2 b3 : Bytes) → to + len ≤ length b
       → b1 ≡ over b to (cut F 8 at) → b2 ≡ over b1 (to + 8) (bytes_of 4 0) → b3 ≡ over b2 (to + 12) (cut F (len - 12) (at + 12)) → b3 ≡ over b to (definition_at F k at)
   struct_written k q l e b b1 b2 b3 h e1 e2 e3 = rw q (struct_put (rw q at l) (rw q at e) b b1 b2 b3 h e1 e2 e3)
 
 -- what `definition_length` counted
 
-pub enum_measured : (F : Bytes) (k : Bool) (at n : ℕ) → k ≡ true → n ≡ read_at 3 F (at + 1) → n < 2 ^ 24 → (4 + 8 * n ≡ length (definition_at F k at)) × (4 + 8 * n < 2 ^ 28)
+pub enum_measured : (F : Bytes) (k : Kind) (at n : ℕ) → k ≡ Enum → n ≡ read_at 3 F (at + 1) → n < 2 ^ 24 → (4 + 8 * n ≡ length (definition_at F k at)) × (4 + 8 * n < 2 ^ 28)
 enum_measured F k at n q e h = rw q (omega (arith, e, enum_size_law F at), omega (arith, h))
 
-pub struct_measured : (F : Bytes) (k : Bool) (at : ℕ) (h : Head) → k ≡ false → h ≡ head_here F at → h.count < 2 ^ 16 → (12 + 12 * h.count ≡ length (definition_at F k at)) × (12 + 12 * h.count < 2 ^ 28)
+pub struct_measured : (F : Bytes) (k : Kind) (at : ℕ) (h : Head) → k ≡ Structure → h ≡ head_here F at → h.count < 2 ^ 16 → (12 + 12 * h.count ≡ length (definition_at F k at)) × (12 + 12 * h.count < 2 ^ 28)
 struct_measured F k at h q e l = rw q (omega (arith, ap (λ (x : Head). x.count) e, struct_size F at), omega (arith, l))
 
 -- what a search says of a name's definition
-module _ (F : Bytes) (k : Bool) (name : ℕ) (r : Found) (e : found_is r ≡ last_place F (kind_of k) name) where
-  pub body_at : (place : ℕ) → r ≡ At place → body_of F k name ≡ definition_at F k place
-  body_at place q = ap (λ (o : Option ℕ). or_value (map_option (definition_at F k) o) []) (sym e ∙ ap found_is q)
+module _ (F : Bytes) (k : Kind) (name : ℕ) (r : Option ℕ) (e : r ≡ last_place F (kind_number k) name) where
+  pub body_at : (place : ℕ) → r ≡ Some place → body_of F k name ≡ definition_at F k place
+  body_at place q = ap (λ (o : Option ℕ). unwrap_or (option_map (definition_at F k) o) []) (sym e ∙ q)
 
-  pub no_body : r ≡ Nothing → body_of F k name ≡ []
-  no_body q = ap (λ (o : Option ℕ). or_value (map_option (definition_at F k) o) []) (sym e ∙ ap found_is q)
+  pub no_body : r ≡ None → body_of F k name ≡ []
+  no_body q = ap (λ (o : Option ℕ). unwrap_or (option_map (definition_at F k) o) []) (sym e ∙ q)
 
-  pub body_measured : (place n : ℕ) → r ≡ At place → (n ≡ length (definition_at F k place)) × (n < 2 ^ 28) → (n ≡ length (body_of F k name)) × (n < 2 ^ 28)
+  pub body_measured : (place n : ℕ) → r ≡ Some place → (n ≡ length (definition_at F k place)) × (n < 2 ^ 28) → (n ≡ length (body_of F k name)) × (n < 2 ^ 28)
   body_measured place n q m = (m.0 ∙ ap length (sym (body_at place q)), m.1)
 
-  pub none_measured : r ≡ Nothing → (0 ≡ length (body_of F k name)) × (0 < 2 ^ 28)
+  pub none_measured : r ≡ None → (0 ≡ length (body_of F k name)) × (0 < 2 ^ 28)
   none_measured q = (sym (ap length (no_body q)), omega arith)
 
   module _ (s : Stored F k name) where
-    pub stored_lies : (place : ℕ) → r ≡ At place → Lies F k place
+    pub stored_lies : (place : ℕ) → r ≡ Some place → Lies F k place
     stored_lies place q =
-        let f : some place ≡ some s.place = sym (ap found_is q) ∙ e ∙ s.found in
+        let f : Some place ≡ Some s.place = sym q ∙ e ∙ s.found in
         let g : s.place ≡ place = cc in
         subst (Lies F k) g s.lies
 
-    pub stored_found : r ≡ Nothing → ⊥
+    pub stored_found : r ≡ None → ⊥
     stored_found q =
-        let f : none ≡ some s.place = sym (ap found_is q) ∙ e ∙ s.found in
+        let f : None ≡ Some s.place = sym q ∙ e ∙ s.found in
         let z : ◌≡◌ {A = ℕ} 0 1 = cc in omega arith
 
   -- what `put_record` wrote
-  pub record_put : (place len to index : ℕ) (o o1 o2 : Bytes) → r ≡ At place → len ≡ length (definition_at F k place) → o1 ≡ over o index (words (name ∷ to ∷ []))
+  pub record_put : (place len to index : ℕ) (o o1 o2 : Bytes) → r ≡ Some place → len ≡ length (definition_at F k place) → o1 ≡ over o index (words (name ∷ to ∷ []))
       → o2 ≡ over o1 to (definition_at F k place)
       → (to + len ≡ to + length (body_of F k name)) × (o2 ≡ over (over o index (words (name ∷ to ∷ []))) to (body_of F k name))
   record_put place len to index o o1 o2 q l e1 e2 =

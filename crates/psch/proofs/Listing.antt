@@ -2,11 +2,11 @@
 use Prim.Native.Nat.{ℕ, zero, suc, ◌+◌, ◌-◌, ◌*◌, ◌^◌, ◌≤◌, ◌<◌}
 use native.Mathlib.Omega.{arith}
 use mathlib.Core.Path.{◌≡◌, refl, sym, ◌∙◌, ap, ap₂, subst}
-use mathlib.Core.Bool.{Bool}
 use mathlib.Core.List.{List, [], ◌∷◌, ◌++◌, append_assoc}
 use lib.ListN.{length, take, drop, length-append, length-map, take-append-drop}
 use lib.Seq.{length-take-le}
 use borrow.Author.Tests.{lt-ltb, le-ltb}
+use Rattle.schema.specs.declared.kind.Kind.{Kind}
 use Rattle.numbers.specs.Words.{Bytes, read_at, words, over}
 use Rattle.numbers.specs.Result.{Every}
 use Rattle.numbers.proofs.Bytes.{length_words}
@@ -77,11 +77,11 @@ unfolding names_in
 length_names w at zero = refl
 length_names w at (suc n) = ap suc (length_names w (at + 4) n)
 
-pub count_records : (F w : Bytes) (e : Bool) (at n : ℕ) → length (records_for F e (names_in w at n)) ≡ n
+pub count_records : (F w : Bytes) (e : Kind) (at n : ℕ) → length (records_for F e (names_in w at n)) ≡ n
 count_records F w e at n = length-map (names_in w at n) (λ m. (m, body_of F e m)) ∙ length_names w at n
 
 -- the loops: k of `count` names are done
-module _ (F w : Bytes) (e : Bool) (names count : ℕ) where
+module _ (F w : Bytes) (e : Kind) (names count : ℕ) where
   abbrev left_of : ℕ → List ℕ
   left_of k = names_in w (names + 4 * k) (count - k)
 
@@ -236,10 +236,10 @@ module _ (F w : Bytes) (e : Bool) (names count : ℕ) where
             }
 
 -- the same, with the words of the contract
-pub long_counts : (F w : Bytes) (e : Bool) (names count from sum k : ℕ) → Summing F w e names count from sum k → 16777216 < sum
+pub long_counts : (F w : Bytes) (e : Kind) (names count from sum k : ℕ) → Summing F w e names count from sum k → 16777216 < sum
     → Counts sum (from + size_of (records_for F e (names_in w names count)))
 long_counts F w e names count from sum k s h = (sum_long F w e names count from sum k s h).0
 
-pub long_same : (F w : Bytes) (e : Bool) (names count from sum k : ℕ) → Summing F w e names count from sum k → 16777216 < sum
+pub long_same : (F w : Bytes) (e : Kind) (names count from sum k : ℕ) → Summing F w e names count from sum k → 16777216 < sum
     → sum ≡ counted_from F e from (names_in w names count)
 long_same F w e names count from sum k s h = (sum_long F w e names count from sum k s h).2

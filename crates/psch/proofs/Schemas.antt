@@ -2,9 +2,9 @@
 use Prim.Native.Nat.{ℕ, ◌+◌, ◌*◌, ◌≤◌}
 use native.Mathlib.Omega.{arith}
 use mathlib.Core.Path.{◌≡◌, refl, sym, ◌∙◌, ap, ap₂}
-use mathlib.Core.Bool.{true, false}
 use mathlib.Core.List.{[], ◌∷◌, ◌++◌}
 use lib.ListN.{length, length-append}
+use Rattle.schema.specs.declared.kind.Kind.TheVariants.{Structure, Enum}
 use Rattle.numbers.specs.Words.{Bytes, bytes_of, words, over}
 use Rattle.numbers.proofs.Bytes.{length_words}
 use Rattle.schema.specs.Sections.{PSCH}
@@ -64,14 +64,14 @@ module _ (rs qs : Records) where
 
 -- the records by the names in the work area
 abbrev pub struct_records : Bytes → Progress → Bytes → Records
-struct_records F p w = records_for F false (names_in w 65536 p.structs)
+struct_records F p w = records_for F Structure (names_in w 65536 p.structs)
 
 abbrev pub enum_records : Bytes → Round → Progress → Bytes → Records
-enum_records F R p w = records_for F true (names_in w (65536 + 4 * R.entries) p.enums)
+enum_records F R p w = records_for F Enum (names_in w (65536 + 4 * R.entries) p.enums)
 
 module _ (F : Bytes) (R : Round) (p : Progress) (w : Bytes) where
   pub used_count : length (struct_records F p w) + length (enum_records F R p w) ≡ p.structs + p.enums
-  used_count = omega (arith, count_records F w false 65536 p.structs, count_records F w true (65536 + 4 * R.entries) p.enums)
+  used_count = omega (arith, count_records F w Structure 65536 p.structs, count_records F w Enum (65536 + 4 * R.entries) p.enums)
 
   pub used_size : length (psch_bytes (used_records F R p w)) ≡ 12 + 8 * (p.structs + p.enums) + length (bodies (struct_records F p w)) + length (bodies (enum_records F R p w))
   used_size = omega (arith, psch_size (struct_records F p w) (enum_records F R p w), used_count)
@@ -83,4 +83,4 @@ module _ (F : Bytes) (R : Round) (p : Progress) (w : Bytes) where
       → o3 ≡ over o2 0 (words (PSCH ∷ end ∷ [])) → o4 ≡ over o3 8 (bytes_of 4 (p.structs + p.enums)) → o4 ≡ over o 0 (psch_bytes (used_records F R p w))
   used_put mid end o o1 o2 o3 o4 h a b e3 e4 =
       schema_put (struct_records F p w) (enum_records F R p w) (p.structs + p.enums) (12 + 8 * (p.structs + p.enums)) mid end (12 + 8 * p.structs) o o1 o2 o3 o4
-      used_count refl a.0 b.0 (omega (arith, count_records F w false 65536 p.structs)) (omega (arith, h, used_size, a.0, b.0)) a.1 b.1 e3 e4
+      used_count refl a.0 b.0 (omega (arith, count_records F w Structure 65536 p.structs)) (omega (arith, h, used_size, a.0, b.0)) a.1 b.1 e3 e4

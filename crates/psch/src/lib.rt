@@ -4,50 +4,40 @@
 ghost use Rattle.std.specs.Prelude.{◌≡◌, [], ◌∷◌, ◌+◌, ◌*◌, ◌^◌, ◌≤◌, ◌<◌, length};
 ghost use Rattle.numbers.specs.Words.{words, over};
 ghost use Rattle.numbers.specs.Result.{Every};
-ghost use Rattle.schema.specs.Index.{last_place};
-ghost use Rattle.definitions.specs.Answers.{found_is};
 ghost use Rattle.layout.specs.Assemble.{index_of, psch_bytes, bodies};
 ghost use Rattle.area.specs.Rows.{names_in};
 ghost use Rattle.area.specs.Posts.{Safe};
-ghost use Rattle.psch.specs.Used.{kind_of, definition_at, body_of, records_for, size_of, counted_from, used_records, Lies, Stored, AllStored, Counts};
+ghost use Rattle.psch.specs.Used.{definition_at, body_of, records_for, size_of, counted_from, used_records, Lies, Stored, AllStored, Counts};
 
 use area::{Progress, Round, write_two};
-use definitions::lookup::{Found, find_enum, find_structure};
+use definitions::lookup::find;
 use definitions::members::{entry_count, read_head};
-use numbers::words::{read_u32, write, write_u32};
+use numbers::words::{read, write, write_u32};
+use schema::kind::Kind;
 use section::{copy_part, head};
 
 pub mod section;
 
-// The place in the schema file of the structure or the enum that a name stands for.
-fn find(schema: &[u8], enums: bool, name: u32) -> Found
-    ensures { found_is result ≡ last_place schema.now (kind_of enums) name }
-{
-    if enums {
-        return find_enum(schema, name);
-    }
-    find_structure(schema, name)
-}
-
 // How many bytes the definition at a place has.
-fn definition_length(schema: &[u8], enums: bool, place: usize) -> usize
-    ensures { (result ≡ length (definition_at schema.now enums place)) × (result < 2 ^ 28) }
+fn definition_length(schema: &[u8], kind: Kind, place: usize) -> usize
+    ensures { (result ≡ length (definition_at schema.now kind place)) × (result < 2 ^ 28) }
 {
-    if enums {
-        let n = entry_count(schema, place) as usize;
-        return 4 + 8 * n;
+    match kind {
+        Kind::Structure => {
+            let head = read_head(schema, place);
+            12 + 12 * (head.count as usize)
+        }
+        Kind::Enum => 4 + 8 * (entry_count(schema, place) as usize),
     }
-    let head = read_head(schema, place);
-    12 + 12 * (head.count as usize)
 }
 
 // How many bytes a name's definition has.
-fn body_length(schema: &[u8], enums: bool, name: u32) -> usize
-    ensures { (result ≡ length (body_of schema.now enums name)) × (result < 2 ^ 28) }
+fn body_length(schema: &[u8], kind: Kind, name: u32) -> usize
+    ensures { (result ≡ length (body_of schema.now kind name)) × (result < 2 ^ 28) }
 {
-    match find(schema, enums, name) {
-        Found::At(place) => definition_length(schema, enums, place),
-        Found::Nothing => 0,
+    match find(schema, kind, name) {
+        Some(place) => definition_length(schema, kind, place),
+        None => 0,
     }
 }
 
@@ -58,63 +48,62 @@ pub fn definitions_length(
     work: &[u8],
     names: usize,
     count: usize,
-    enums: bool,
+    kind: Kind,
     from: usize,
 ) -> usize
     requires { (names + 4 * count ≤ length work.now) × (from < 2 ^ 48) }
-    ensures { Counts result (from + size_of (records_for schema.now enums (names_in work.now names count))) × (result < 2 ^ 48)
-        × (result ≡ counted_from schema.now enums from (names_in work.now names count)) }
+    ensures { Counts result (from + size_of (records_for schema.now kind (names_in work.now names count))) × (result < 2 ^ 48)
+        × (result ≡ counted_from schema.now kind from (names_in work.now names count)) }
 {
     let mut sum = from;
-    let mut k = 0;
-    while k < count {
+    for k in 0..count {
         if 16777216 < sum {
             return sum;
         }
-        let name = read_u32(work, names + 4 * k);
-        sum += 8 + body_length(schema, enums, name);
-        k += 1;
+        let name = read::<u32>(work, names + 4 * k);
+        sum += 8 + body_length(schema, kind, name);
     }
     sum
 }
 
 // The definition at a place, of `len` bytes: its members begin 12 bytes behind its start, where 4 are zero.
-fn put_definition(schema: &[u8], enums: bool, place: usize, len: usize, out: &mut [u8], to: usize)
-    requires lies { Lies schema.now enums place }
-    requires len_value { (len ≡ length (definition_at schema.now enums place)) × (to + len ≤ length out.old) }
-    ensures { out.new ≡ over out.old to (definition_at schema.now enums place) }
+fn put_definition(schema: &[u8], kind: Kind, place: usize, len: usize, out: &mut [u8], to: usize)
+    requires lies { Lies schema.now kind place }
+    requires len_value { (len ≡ length (definition_at schema.now kind place)) × (to + len ≤ length out.old) }
+    ensures { out.new ≡ over out.old to (definition_at schema.now kind place) }
 {
-    if enums {
-        copy_part(schema, place, len, out, to);
-        return;
+    match kind {
+        Kind::Structure => {
+            copy_part(schema, place, 8, out, to);
+            write(out, to + 8, 4, 0);
+            copy_part(schema, place + 12, len - 12, out, to + 12);
+        }
+        Kind::Enum => copy_part(schema, place, len, out, to),
     }
-    copy_part(schema, place, 8, out, to);
-    write(out, to + 8, 4, 0);
-    copy_part(schema, place + 12, len - 12, out, to + 12);
 }
 
 // A name's index entry at `index` and its definition at `to`; where the definition ends.
 fn put_record(
     schema: &[u8],
-    enums: bool,
+    kind: Kind,
     name: u32,
     out: &mut [u8],
     index: usize,
     to: usize,
 ) -> usize
-    requires stored { Stored schema.now enums name }
-    requires index_bound { (index + 8 ≤ to) × (to + length (body_of schema.now enums name) ≤ length out.old) × (to < 2 ^ 32) }
-    ensures { (result ≡ to + length (body_of schema.now enums name))
-        × (out.new ≡ over (over out.old index (words (name ∷ to ∷ []))) to (body_of schema.now enums name)) }
+    requires stored { Stored schema.now kind name }
+    requires index_bound { (index + 8 ≤ to) × (to + length (body_of schema.now kind name) ≤ length out.old) × (to < 2 ^ 32) }
+    ensures { (result ≡ to + length (body_of schema.now kind name))
+        × (out.new ≡ over (over out.old index (words (name ∷ to ∷ []))) to (body_of schema.now kind name)) }
 {
-    match find(schema, enums, name) {
-        Found::At(place) => {
-            let len = definition_length(schema, enums, place);
+    match find(schema, kind, name) {
+        Some(place) => {
+            let len = definition_length(schema, kind, place);
             write_two(out, index, name, to as u32);
-            put_definition(schema, enums, place, len, out, to);
+            put_definition(schema, kind, place, len, out, to);
             to + len
         }
-        Found::Nothing => to,
+        None => to,
     }
 }
 
@@ -124,25 +113,23 @@ fn put_records(
     work: &[u8],
     names: usize,
     count: usize,
-    enums: bool,
+    kind: Kind,
     out: &mut [u8],
     index: usize,
     to: usize,
 ) -> usize
     requires count_in_bounds { (names + 4 * count ≤ length work.now) × (index + 8 * count ≤ to) }
-    requires every { Every (Stored schema.now enums) (names_in work.now names count) }
-    requires count_in_bounds_2 { (to + length (bodies (records_for schema.now enums (names_in work.now names count))) ≤ length out.old)
-        × (to + length (bodies (records_for schema.now enums (names_in work.now names count))) < 2 ^ 32) }
-    ensures { (result ≡ to + length (bodies (records_for schema.now enums (names_in work.now names count))))
-        × (out.new ≡ over (over out.old index (index_of to (records_for schema.now enums (names_in work.now names count))))
-        to (bodies (records_for schema.now enums (names_in work.now names count)))) }
+    requires every { Every (Stored schema.now kind) (names_in work.now names count) }
+    requires count_in_bounds_2 { (to + length (bodies (records_for schema.now kind (names_in work.now names count))) ≤ length out.old)
+        × (to + length (bodies (records_for schema.now kind (names_in work.now names count))) < 2 ^ 32) }
+    ensures { (result ≡ to + length (bodies (records_for schema.now kind (names_in work.now names count))))
+        × (out.new ≡ over (over out.old index (index_of to (records_for schema.now kind (names_in work.now names count))))
+        to (bodies (records_for schema.now kind (names_in work.now names count)))) }
 {
     let mut at = to;
-    let mut k = 0;
-    while k < count {
-        let name = read_u32(work, names + 4 * k);
-        at = put_record(schema, enums, name, out, index + 8 * k, at);
-        k += 1;
+    for k in 0..count {
+        let name = read::<u32>(work, names + 4 * k);
+        at = put_record(schema, kind, name, out, index + 8 * k, at);
     }
     at
 }
@@ -157,13 +144,13 @@ pub fn put_schema(schema: &[u8], work: &[u8], round: Round, p: Progress, out: &m
     let structs = p.structs;
     let n = structs + p.enums;
     let to = 12 + 8 * n;
-    let mid = put_records(schema, work, 65536, structs, false, out, 12, to);
+    let mid = put_records(schema, work, 65536, structs, Kind::Structure, out, 12, to);
     let end = put_records(
         schema,
         work,
         65536 + 4 * round.entries,
         p.enums,
-        true,
+        Kind::Enum,
         out,
         12 + 8 * structs,
         mid,

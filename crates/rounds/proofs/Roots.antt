@@ -1,7 +1,7 @@
 -- A run of the layout: the empty work area, the root's structure, its item. Assumes nothing.
+use Rattle.std.specs.Prelude.{Some}
 use mathlib.Core.Path.{◌≡◌, refl, sym, ap, ◌∙◌}
 use mathlib.Core.List.{List, [], ◌∷◌, ◌++◌}
-use mathlib.Core.Option.{some}
 use Prim.Native.Nat.{ℕ, ◌+◌, ◌-◌, ◌*◌}
 use native.Mathlib.Omega.{arith}
 use lib.ListN.{length}
@@ -12,7 +12,6 @@ use Rattle.schema.specs.Defs.{Schema, StructDef, Lookup, winning, index_entries}
 use Rattle.schema.specs.Psch.{schema_of, struct_here}
 use Rattle.definitions.specs.Answers.{head_here}
 use Rattle.schema.specs.Index.{last_place}
-use Rattle.definitions.specs.declared.lookup.Found.TheVariants.{At}
 use Rattle.definitions.proofs.Finds.{winning_struct}
 use Rattle.definitions.specs.declared.members.Head.{Head}
 use Rattle.layout.specs.State.{Out, done, stop, after, bind, empty_state, contains, add_item}
@@ -90,20 +89,20 @@ rep_empty S R n h e =
     }
 
 -- the root's definition, as the code has it
-pub root_def_law : (F : Bytes) (S : Schema) (name place : ℕ) (h : Head) → schema_of F ≡ ok S → last_place F 0 name ≡ some place → h ≡ head_here F place
-    → (winning S).struct name ≡ some (def_of F (record { name = name; place = place; size = h.size; count = h.count }))
+pub root_def_law : (F : Bytes) (S : Schema) (name place : ℕ) (h : Head) → schema_of F ≡ ok S → last_place F 0 name ≡ Some place → h ≡ head_here F place
+    → (winning S).struct name ≡ Some (def_of F (record { name = name; place = place; size = h.size; count = h.count }))
 unfolding def_of struct_here
-root_def_law F S name place h e f g = winning_struct F name (At place) S e (sym f) ∙ (rw g refl)
+root_def_law F S name place h e f g = winning_struct F name (Some place) S e (sym f) ∙ (rw g refl)
 
 -- what the root's structure and its item give
 module _ (T F : Bytes) (R : Round) (n : ℕ) (w : Bytes) (d : Def) where
-  module _ (room : Roomy R n) (zero : w ≡ zeros n) (wins : (S : Schema) → schema_of F ≡ ok S → (winning S).struct d.name ≡ some (def_of F d)) where
+  module _ (room : Roomy R n) (zero : w ≡ zeros n) (wins : (S : Schema) → schema_of F ≡ ok S → (winning S).struct d.name ≡ Some (def_of F d)) where
     -- what is asked of the structure's writer
     known : (S : Schema) → schema_of F ≡ ok S → Named F d S
     known S e = record { of = e; winner = wins S e }
 
-    at_root : (S : Schema) (e : StructDef) → schema_of F ≡ ok S → (winning S).struct d.name ≡ some e → def_of F d ≡ e
-    at_root S e f g = let z : some (def_of F d) ≡ some e = sym (wins S f) ∙ g in cc
+    at_root : (S : Schema) (e : StructDef) → schema_of F ≡ ok S → (winning S).struct d.name ≡ Some e → def_of F d ≡ e
+    at_root S e f g = let z : Some (def_of F d) ≡ Some e = sym (wins S f) ∙ g in cc
 
     -- the structure is refused
     pub root_refused : (k : ℕ) (t : Progress) (v : Bytes) → Pushes (Named F d) R n (beginning_of R) w d.size (λ S. deeper T R 32 S (def_of F d) (fields_of T (row T 0))) (W.Refused k t) v

@@ -1,7 +1,7 @@
 -- The merge of the rounds' rows into the lent list. Its invariant: what is left leads to the same end.
 use Rattle.std.specs.Prelude.{◌≡◌, ℕ, ◌+◌, ◌*◌, ◌-◌, ◌<◌, ◌≤◌, true, false, cond, ◌||◌, List, [], ◌++◌, ltb, eqb, length, get_or, take, drop}
 use Rattle.numbers.specs.Words.{Bytes, zeros}
-use Rattle.numbers.specs.Result.{Result, ok, refused, map_result, needed}
+use Rattle.numbers.specs.Result.{Result, ok, refused, and_then, needed}
 use Rattle.value.specs.Rows.{row}
 use Rattle.schema.specs.Defs.{Schema, winning, index_entries}
 use Rattle.schema.specs.Psch.{schema_of}
@@ -19,7 +19,6 @@ use Rattle.rounds.specs.declared.Stage.{Stage}
 use Rattle.rounds.specs.declared.run.Ran.{Ran}
 use Rattle.rounds.specs.declared.run.Ran.TheVariants.{Done, Refused}
 use Rattle.rounds.specs.declared.opening.Opening.{Opening}
-use Rattle.rounds.specs.declared.opening.Opening.TheVariants as O
 use Rattle.rounds.specs.Run.{Roomy, Rooted, run_of, made, Standing, met_in, Laid}
 
 -- the stages, by value
@@ -152,29 +151,24 @@ Takes T F size room R place name count r w =
     → Goes T F size room r zs w (bound room 0 (length (events_of (run_of T h.schema h.def R)) - R.skip) 0)
 
 -- what is refused before the layout, or what it runs with, in a work area of n bytes
-abbrev pub Opens : Bytes → Bytes → ℕ → Opening → Type 0
-Opens T F n (O.Refused k) = (size room : ℕ) → build T F n size room ≡ refused k
-Opens T F n (O.Go R place name) =
-    (h : Rooted F R place name)
-    × (Roomy R n × (R.skip ≡ 0) × ((size room : ℕ) → build T F n size room ≡ made (winning h.schema) size room (run_of T h.schema h.def R)))
+abbrev pub Opens : Bytes → Bytes → ℕ → Result Opening → Type 0
+Opens T F n (refused k) = (size room : ℕ) → build T F n size room ≡ refused k
+Opens T F n (ok o) =
+    (h : Rooted F o.round o.place o.name)
+    × (Roomy o.round n × (o.round.skip ≡ 0) × ((size room : ℕ) → build T F n size room ≡ made (winning h.schema) size room (run_of T h.schema h.def o.round)))
 
 -- the rooms of a work area of n bytes; 12
-abbrev pub roomed_at : ℕ → ℕ → ℕ → ℕ → Opening
-roomed_at n i place name = cond (ltb n (work_need i)) (O.Refused 12) (O.Go (record { entries = i; cap = cap_of n i; skip = 0 }) place name)
-
--- what follows, or the refusal before it
-abbrev pub opening_is : Result Opening → Opening
-opening_is (ok o) = o
-opening_is (refused k) = O.Refused k
+abbrev pub roomed_at : ℕ → ℕ → ℕ → ℕ → Result Opening
+roomed_at n i place name = cond (ltb n (work_need i)) (refused 12) (ok (record { round = record { entries = i; cap = cap_of n i; skip = 0 }; place = place; name = name }))
 
 -- 7: "the root type has no definition"; then the rooms. i index entries
-unfoldable pub rooted_at : Bytes → Bytes → ℕ → ℕ → Opening
-rooted_at T F n i = opening_is (map_result (λ place. roomed_at n i place (row T 0).a) (needed (last_place F 0 (row T 0).a) 7))
+unfoldable pub rooted_at : Bytes → Bytes → ℕ → ℕ → Result Opening
+rooted_at T F n i = and_then (needed (last_place F 0 (row T 0).a) 7) (λ place. roomed_at n i place (row T 0).a)
 
 -- 4, 5, 6; then the root
-unfoldable pub schemed_at : Bytes → Bytes → ℕ → Opening
-schemed_at T F n = opening_is (map_result (λ S. rooted_at T F n (index_entries S)) (schema_of F))
+unfoldable pub schemed_at : Bytes → Bytes → ℕ → Result Opening
+schemed_at T F n = and_then (schema_of F) (λ S. rooted_at T F n (index_entries S))
 
 -- 1, 2, 3; then the schema
-unfoldable pub opening_of : Bytes → Bytes → ℕ → Opening
-opening_of T F n = opening_is (map_result (λ _. schemed_at T F n) (sheet_ok T))
+unfoldable pub opening_of : Bytes → Bytes → ℕ → Result Opening
+opening_of T F n = and_then (sheet_ok T) (λ _. schemed_at T F n)

@@ -1,6 +1,5 @@
 -- A round: what it is run with, and what stands in the work area after it.
-use Rattle.std.specs.Prelude.{◌≡◌, ℕ, ◌+◌, ◌*◌, ◌≤◌, cond, List, [], length}
-use Rattle.std.proofs.Math.Option.{some}
+use Rattle.std.specs.Prelude.{◌≡◌, ℕ, ◌+◌, ◌*◌, ◌≤◌, cond, List, [], length, Some}
 use Rattle.numbers.specs.Words.{Bytes}
 use Rattle.numbers.specs.Result.{Result, ok, and_then}
 use Rattle.value.specs.Rows.{row, fields_of}
@@ -30,8 +29,8 @@ pub record Rooted (F : Bytes) (R : Round) (place name : ℕ) : Type 0 where
   pub def : StructDef
   pub whole : schema_of F ≡ ok schema
   pub entries : index_entries schema ≡ R.entries
-  pub wins : (winning schema).struct name ≡ some def
-  pub found : last_place F 0 name ≡ some place
+  pub wins : (winning schema).struct name ≡ Some def
+  pub found : last_place F 0 name ≡ Some place
 
 -- the layout
 abbrev pub run_of : Bytes → Schema → StructDef → Round → Out ℕ
@@ -50,7 +49,7 @@ numbers_of (Refused k p) = p
 -- a run of the layout, and what it leaves
 pub record Runs (T F : Bytes) (R : Round) (n name : ℕ) (r : Ran) (w : Bytes) : Type 0 where
   pub safe : Safe R n (numbers_of r)
-  pub says : (S : Schema) (d : StructDef) → schema_of F ≡ ok S → index_entries S ≡ R.entries → (winning S).struct name ≡ some d
+  pub says : (S : Schema) (d : StructDef) → schema_of F ≡ ok S → index_entries S ≡ R.entries → (winning S).struct name ≡ Some d
       → Meets S R n (λ _. []) (λ a x. a ≡ x) (run_of T S d R) (ran_is r) w
 
 -- building, after the layout

@@ -1,16 +1,16 @@
 -- Runs of cells and of texts by pointer, element by element. No line here names a place of the code. Assumes nothing.
+use Rattle.std.specs.Prelude.{Option, Some, None, unwrap_or, Ok, Err}
 use mathlib.Core.Path.{◌≡◌, refl, sym, ap, ◌∙◌}
 use mathlib.Core.List.{[], ◌++◌}
-use mathlib.Core.Option.{Option, none, some}
 use Prim.Native.Nat.{ℕ, ◌+◌, ◌-◌, ◌≤◌, ◌<◌}
 use native.Mathlib.Omega.{arith}
 use borrow.Rule.Slice.PartMut.{put_mid, put_same, mid_len}
 use lib.ListN.{length, take, drop, length-append, length-drop, replicate-append-replicate}
 use lib.Seq.{drop_at}
 use Rattle.numbers.specs.Words.{Bytes, over, zeros, padded}
-use Rattle.numbers.specs.Result.{or_value}
 use Rattle.value.specs.Rows.{Row, row, rows_from}
-use Rattle.coerce.specs.Numbers.{Fit, fits, unfit, float_text, str_of}
+use Rattle.coerce.specs.Numbers.{Fit, str_of}
+use Rattle.coerce.specs.declared.misfit.Misfit.TheVariants.{Unfit, FloatText}
 use Rattle.schema.specs.Defs.{Schema}
 use Rattle.layout.specs.State.{State, Out, done, stop, M, after, bind, ret, fail, fit_m}
 use Rattle.layout.specs.Members.{slot_size, text_slot}
@@ -23,7 +23,6 @@ use Rattle.area.proofs.Flat.{length_zeros, padded_is}
 use Rattle.area.proofs.Reps.{rep_push}
 use Rattle.area.proofs.Lending.{buffer, lent}
 use Rattle.cells.specs.declared.Cell.{Cell}
-use Rattle.cells.specs.declared.Put.TheVariants.{Stored, Unfit, FloatText}
 use Rattle.cells.specs.Cells.{cell_bytes, Puts, cell_element}
 use Rattle.members.specs.declared.Wrote.{Wrote}
 use Rattle.members.specs.declared.Wrote.TheVariants.{Done, Refused}
@@ -50,21 +49,21 @@ held : (k : ℕ) (c b : Bytes) → length c ≡ k → length (over c 0 b) ≡ k 
 unfolding over
 held k c b e f = omega (arith, f, length-append b (drop (0 + length b) c), length-drop (0 + length b) c)
 
-module _ (S : Schema) (R : Round) (n : ℕ) (T F : Bytes) (cell : Cell) (stride len r : ℕ) (y : Row) (is : y ≡ row T r) (wide : len ≡ stride)
+module _ (S : Schema) (R : Round) (n : ℕ) (T : Bytes) (cell : Cell) (stride len r : ℕ) (y : Row) (is : y ≡ row T r) (wide : len ≡ stride)
     (q : Progress) (v c : Bytes) (t : State) (τ : Bytes) where
-  cell_is : (x : Fit Bytes) → cell_bytes T F cell y ≡ x → cell_element T F cell stride r t ≡ fit_m x (ret none) (λ bs. ret (some (padded stride bs))) t
+  cell_is : (x : Fit Bytes) → cell_bytes T cell y ≡ x → cell_element T cell stride r t ≡ fit_m x (ret None) (λ bs. ret (Some (padded stride bs))) t
   unfolding cell_element
   cell_is x e = rw (← is, e) refl
 
   -- a cell is stored above the stack
-  cell_made : Puts (cell_bytes T F cell y) (take len (drop q.top v)) 0 Stored c → length c ≡ len → q.top + stride ≤ n → Rep S R n t τ q v
-      → Made S R n τ (cell_element T F cell stride r t) (with_top q (q.top + stride)) (put_mid q.top len v c)
+  cell_made : Puts (cell_bytes T cell y) (take len (drop q.top v)) 0 (Ok tt) c → length c ≡ len → q.top + stride ≤ n → Rep S R n t τ q v
+      → Made S R n τ (cell_element T cell stride r t) (with_top q (q.top + stride)) (put_mid q.top len v c)
   unfolding fit_m ret
-  cell_made u l h z = go (cell_bytes T F cell y) refl u
+  cell_made u l h z = go (cell_bytes T cell y) refl u
     where
-      go : (x : Fit Bytes) → cell_bytes T F cell y ≡ x → Puts x (take len (drop q.top v)) 0 Stored c
-          → Made S R n τ (cell_element T F cell stride r t) (with_top q (q.top + stride)) (put_mid q.top len v c)
-      go (fits b) e d =
+      go : (x : Fit Bytes) → cell_bytes T cell y ≡ x → Puts x (take len (drop q.top v)) 0 (Ok tt) c
+          → Made S R n τ (cell_element T cell stride r t) (with_top q (q.top + stride)) (put_mid q.top len v c)
+      go (Ok b) e d =
           let p : Rep S R n t (τ ++ zeros stride) (with_top q (q.top + stride)) v = rep_push S R n stride z h in
           let k : length (zeros stride) ≡ len = length_zeros stride ∙ sym wide in
           let m : take len (drop q.top v) ≡ zeros stride = buffer S R n τ (zeros stride) q.top len p h (omega (arith, wide)) k in
@@ -73,41 +72,40 @@ module _ (S : Schema) (R : Round) (n : ℕ) (T F : Bytes) (cell : Cell) (stride 
           record {
             state = t;
             bytes = padded stride b;
-            is = cell_is (fits b) e;
+            is = cell_is (Ok b) e;
             rep = rw (d, ← filled stride b g) (lent S R n τ (zeros stride) q.top len (λ x. over x 0 b) p h (omega (arith, wide)) k o);
           }
-      go unfit e d = absurd d
-      go float_text e d = absurd d
+      go (Err f) e d = absurd d
 
   -- .. does not fit
-  cell_fails : Puts (cell_bytes T F cell y) (take len (drop q.top v)) 0 Unfit c → Rep S R n t τ q v → Fails S R n τ (cell_element T F cell stride r t) q (put_mid q.top len v c)
+  cell_fails : Puts (cell_bytes T cell y) (take len (drop q.top v)) 0 (Err Unfit) c → Rep S R n t τ q v → Fails S R n τ (cell_element T cell stride r t) q (put_mid q.top len v c)
   unfolding fit_m ret
-  cell_fails u z = go (cell_bytes T F cell y) refl u
+  cell_fails u z = go (cell_bytes T cell y) refl u
     where
-      go : (x : Fit Bytes) → cell_bytes T F cell y ≡ x → Puts x (take len (drop q.top v)) 0 Unfit c → Fails S R n τ (cell_element T F cell stride r t) q (put_mid q.top len v c)
-      go unfit e d = record { state = t; is = cell_is unfit e; rep = rw (ap (put_mid q.top len v) d ∙ put_same q.top len v) z }
-      go (fits b) e d = absurd d
-      go float_text e d = absurd d
+      go : (x : Fit Bytes) → cell_bytes T cell y ≡ x → Puts x (take len (drop q.top v)) 0 (Err Unfit) c → Fails S R n τ (cell_element T cell stride r t) q (put_mid q.top len v c)
+      go (Err Unfit) e d = record { state = t; is = cell_is (Err Unfit) e; rep = rw (ap (put_mid q.top len v) d.1 ∙ put_same q.top len v) z }
+      go (Ok b) e d = absurd d
+      go (Err FloatText) e d = cc
 
   -- .. is a float's text
-  cell_halts : Puts (cell_bytes T F cell y) (take len (drop q.top v)) 0 FloatText c → Rep S R n t τ q v → Halts S R n 11 (cell_element T F cell stride r t) q (put_mid q.top len v c)
+  cell_halts : Puts (cell_bytes T cell y) (take len (drop q.top v)) 0 (Err FloatText) c → Rep S R n t τ q v → Halts S R n 11 (cell_element T cell stride r t) q (put_mid q.top len v c)
   unfolding fit_m fail
-  cell_halts u z = go (cell_bytes T F cell y) refl u
+  cell_halts u z = go (cell_bytes T cell y) refl u
     where
-      go : (x : Fit Bytes) → cell_bytes T F cell y ≡ x → Puts x (take len (drop q.top v)) 0 FloatText c → Halts S R n 11 (cell_element T F cell stride r t) q (put_mid q.top len v c)
-      go float_text e d = record { events = t.events; is = cell_is float_text e; stopped = record { state = t; stack = τ; rep = rw (ap (put_mid q.top len v) d ∙ put_same q.top len v) z; met = refl } }
-      go (fits b) e d = absurd d
-      go unfit e d = absurd d
+      go : (x : Fit Bytes) → cell_bytes T cell y ≡ x → Puts x (take len (drop q.top v)) 0 (Err FloatText) c → Halts S R n 11 (cell_element T cell stride r t) q (put_mid q.top len v c)
+      go (Err FloatText) e d = record { events = t.events; is = cell_is (Err FloatText) e; stopped = record { state = t; stack = τ; rep = rw (ap (put_mid q.top len v) d.1 ∙ put_same q.top len v) z; met = refl } }
+      go (Ok b) e d = absurd d
+      go (Err Unfit) e d = cc
 
 -- a run of cells
-module _ (R : Round) (n : ℕ) (s : Progress) (w T F : Bytes) (cell : Cell) (stride first m : ℕ) where
+module _ (R : Round) (n : ℕ) (s : Progress) (w T : Bytes) (cell : Cell) (stride first m : ℕ) where
   abbrev pub Cells : Progress → Bytes → ℕ → Type 0
-  Cells q v i = Running any_schema R n s w stride 0 (λ S r. cell_element T F cell stride r) (rows_from first m) q v i
+  Cells q v i = Running any_schema R n s w stride 0 (λ S r. cell_element T cell stride r) (rows_from first m) q v i
 
   module _ (q : Progress) (v : Bytes) (i : ℕ) (d : Ready R n stride m s) (a : Cells q v i) (less : i < m) where
     pub cells_room : q.top + stride ≤ n
     cells_room =
-        let h = run_room any_schema R n s w stride 0 (λ S r. cell_element T F cell stride r) (rows_from first m) d a less in
+        let h = run_room any_schema R n s w stride 0 (λ S r. cell_element T cell stride r) (rows_from first m) d a less in
         omega (arith, h.stack, h.within, h.room)
 
     abbrev len : ℕ
@@ -118,35 +116,35 @@ module _ (R : Round) (n : ℕ) (s : Progress) (w T F : Bytes) (cell : Cell) (str
 
     -- the next cell's bytes are lent
     module _ (y : Row) (is : y ≡ row T (first + i)) (c : Bytes) where
-      pub cells_turn : Puts (cell_bytes T F cell y) (take len (drop q.top v)) 0 Stored c → length v ≡ n → length c ≡ length (take len (drop q.top v))
+      pub cells_turn : Puts (cell_bytes T cell y) (take len (drop q.top v)) 0 (Ok tt) c → length v ≡ n → length c ≡ length (take len (drop q.top v))
           → Cells (with_top q (q.top + stride)) (put_mid q.top len v c) (i + 1)
       cells_turn u e l =
-          run_turn any_schema R n s w stride 0 (λ S r. cell_element T F cell stride r) (rows_from first m) (first + i) a (row_ith first m i less)
-          (run_room any_schema R n s w stride 0 (λ S r. cell_element T F cell stride r) (rows_from first m) d a less)
+          run_turn any_schema R n s w stride 0 (λ S r. cell_element T cell stride r) (rows_from first m) (first + i) a (row_ith first m i less)
+          (run_room any_schema R n s w stride 0 (λ S r. cell_element T cell stride r) (rows_from first m) d a less)
           (record { more = omega arith; paid = omega arith; top = refl; met = omega arith })
-          (λ S k t τ r. cell_made S R n T F cell stride len (first + i) y is wide q v c t τ u (l ∙ mid_len q.top (q.top + stride) v (rw e cells_room)) cells_room r)
+          (λ S k t τ r. cell_made S R n T cell stride len (first + i) y is wide q v c t τ u (l ∙ mid_len q.top (q.top + stride) v (rw e cells_room)) cells_room r)
 
       module _ (p : Progress) (block : ℕ) (o : Safe R n p) (paid : Paid R p (run_cost stride m) s) where
         abbrev Cells-post : Ran → Bytes → Type 0
-        Cells-post x z = Yields any_schema R n p w 0 (λ S. run (env_of T S R) stride block (cell_element T F cell stride) (rows_from first m)) x z
+        Cells-post x z = Yields any_schema R n p w 0 (λ S. run (env_of T S R) stride block (cell_element T cell stride) (rows_from first m)) x z
 
-        pub cells_dropped : (u : Progress) (z : Bytes) → Puts (cell_bytes T F cell y) (take len (drop q.top v)) 0 Unfit c → Fell q p.top (put_mid q.top len v c) u z → Cells-post (Rn.Dropped u) z
+        pub cells_dropped : (u : Progress) (z : Bytes) → Puts (cell_bytes T cell y) (take len (drop q.top v)) 0 (Err Unfit) c → Fell q p.top (put_mid q.top len v c) u z → Cells-post (Rn.Dropped u) z
         cells_dropped u z e f =
-            run_dropped any_schema R n p w stride 0 m (λ S r. cell_element T F cell stride r) (rows_from first m) T block 0 (length_rows_from first m) (omega arith) (first + i) o paid a less (row_ith first m i less) a.safe
+            run_dropped any_schema R n p w stride 0 m (λ S r. cell_element T cell stride r) (rows_from first m) T block 0 (length_rows_from first m) (omega arith) (first + i) o paid a less (row_ith first m i less) a.safe
             (record { more = omega arith; paid = omega arith; top = omega arith; met = omega arith })
-            (λ S k t τ r. cell_fails S R n T F cell stride len (first + i) y is wide q v c t τ e r) f
+            (λ S k t τ r. cell_fails S R n T cell stride len (first + i) y is wide q v c t τ e r) f
 
-        pub cells_stopped : Puts (cell_bytes T F cell y) (take len (drop q.top v)) 0 FloatText c → Cells-post (Rn.Refused 11 q) (put_mid q.top len v c)
+        pub cells_stopped : Puts (cell_bytes T cell y) (take len (drop q.top v)) 0 (Err FloatText) c → Cells-post (Rn.Refused 11 q) (put_mid q.top len v c)
         cells_stopped e =
-            run_stopped any_schema R n p w stride 0 m (λ S r. cell_element T F cell stride r) (rows_from first m) T block 0 (length_rows_from first m) (omega arith) (first + i) paid a (row_ith first m i less) a.safe
-            (λ S k t τ r. cell_halts S R n T F cell stride len (first + i) y is wide q v c t τ e r)
+            run_stopped any_schema R n p w stride 0 m (λ S r. cell_element T cell stride r) (rows_from first m) T block 0 (length_rows_from first m) (omega arith) (first + i) paid a (row_ith first m i less) a.safe
+            (λ S k t τ r. cell_halts S R n T cell stride len (first + i) y is wide q v c t τ e r)
 
 -- texts by pointer
-module _ (S : Schema) (R : Round) (n : ℕ) (T : Bytes) (sub r : ℕ) (x : Bytes) (is : x ≡ or_value (str_of T (row T r)) []) (q : Progress) (v : Bytes) (u : Progress) (z : Bytes) (t : State) (τ : Bytes) where
+module _ (S : Schema) (R : Round) (n : ℕ) (T : Bytes) (sub r : ℕ) (x : Bytes) (is : x ≡ unwrap_or (str_of T (row T r)) []) (q : Progress) (v : Bytes) (u : Progress) (z : Bytes) (t : State) (τ : Bytes) where
   abbrev slot : Out Bytes
   slot = text_slot (env_of T S R) sub x (zeros (slot_size sub)) 0 t
 
-  text_is : (o : Out Bytes) → slot ≡ o → text_element (env_of T S R) sub r t ≡ after o (λ bs. ret (some bs))
+  text_is : (o : Out Bytes) → slot ≡ o → text_element (env_of T S R) sub r t ≡ after o (λ bs. ret (Some bs))
   unfolding text_element bind
   text_is o e = rw (← is, e) refl
 
@@ -192,8 +190,8 @@ module _ (R : Round) (n : ℕ) (s : Progress) (w T : Bytes) (sub first m : ℕ) 
     inside = omega (arith, room.stack, room.within, room.room)
 
     -- the next text's slot
-    module _ (y : Row) (row_is : y ≡ row T (first + i)) (x : Bytes) (text_is : x ≡ or_value (str_of T y) []) (k : ℕ) (same : k ≡ n) where
-      is : x ≡ or_value (str_of T (row T (first + i))) []
+    module _ (y : Row) (row_is : y ≡ row T (first + i)) (x : Bytes) (text_is : x ≡ unwrap_or (str_of T y) []) (k : ℕ) (same : k ≡ n) where
+      is : x ≡ unwrap_or (str_of T (row T (first + i))) []
       is = rw (← row_is) text_is
 
       slots : (o r : Wrote) (z : Bytes) → r ≡ o → Slots R k (with_top q (q.top + stride)) v sub x q.top r z → Slots R n (with_top q (q.top + slot_size sub)) v sub x q.top o z

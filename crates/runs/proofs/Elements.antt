@@ -1,26 +1,26 @@
 -- Runs that lead to no structure, by their elements' kind. No line here names a place of the code. Assumes nothing.
+use Rattle.std.specs.Prelude.{Option, Some, None, is_some, option_map, Ok, Err}
 use mathlib.Core.Path.{◌≡◌, refl, sym, ap, fun_ext, ◌∙◌}
 use mathlib.Core.List.{List, ◌++◌, append-nil}
 use mathlib.Core.Logic.{◌⊎◌, inl, inr}
 use mathlib.Core.Bool.{Bool, true, false, cond, false≢true}
-use mathlib.Core.Option.{Option, none, some}
-use Prim.Native.Nat.{ℕ, ◌+◌, ◌-◌, ◌*◌, ◌≤◌, ◌<◌}
+use Prim.Native.Nat.{ℕ, ◌-◌, ◌*◌, ◌≤◌, ◌<◌}
 use native.Mathlib.Omega.{arith}
 use borrow.Author.Tests.{eqb-true, eqb-false, eq-eqb, ne_eqb, le-leb, lt-leb}
 use lib.Dec.{eqb}
 use lib.ListN.{length, take}
-use Rattle.numbers.specs.Words.{Bytes, bytes_of, padded, zeros, read_at}
-use Rattle.numbers.specs.Result.{ok, is_some, map_option}
+use Rattle.numbers.specs.Words.{Bytes, bytes_of, padded, zeros}
+use Rattle.numbers.specs.Result.{ok}
 use Rattle.numbers.proofs.Bytes.{length_bytes}
 use Rattle.value.specs.Rows.{row}
-use Rattle.coerce.specs.Numbers.{Fit, fits, unfit, float_text, map_fit, fit_or, str_of}
+use Rattle.coerce.specs.Numbers.{Fit, map_fit, fit_or, str_of}
+use Rattle.coerce.specs.declared.misfit.Misfit.TheVariants.{Unfit, FloatText}
 use Rattle.names.specs.Names.{hash_of, enum_value}
 use Rattle.schema.specs.Defs
 use Rattle.schema.specs.Defs.{Schema, StructDef, winning}
-use Rattle.schema.specs.Psch.{schema_of, entries_at, enum_here}
-use Rattle.definitions.specs.Answers.{enum_found}
-use Rattle.definitions.specs.declared.lookup.Found.{Found}
-use Rattle.definitions.specs.declared.lookup.Found.TheVariants.{At, Nothing}
+use Rattle.schema.specs.Psch.{schema_of}
+use Rattle.names.specs.Entries.{all_of}
+use Rattle.names.specs.declared.entries.Entries.{Entries}
 use Rattle.definitions.specs.declared.members.Member as coded
 use Rattle.layout.specs.State.{State, Env, M, done, after, bind, ret, if_m, fit_m, remark, with_remark, use_enum, log_enum, on_core, settle, use_enum_c}
 use Rattle.layout.specs.Kinds
@@ -33,16 +33,17 @@ use Rattle.area.specs.Posts.{Safe, Open, Notes, Marks}
 use Rattle.area.proofs.Flat.{padded_is}
 use Rattle.cells.specs.declared.defs.Def.{Def}
 use Rattle.cells.specs.declared.Cell.TheVariants as C
-use Rattle.cells.specs.Names.{def_of, member_of}
+use Rattle.cells.specs.Names.{def_of, member_of, Named}
+use Rattle.cells.proofs.Planning.{named_own}
 use Rattle.cells.specs.Cells.{cell_bytes, cell_element, scalar_cell}
-use Rattle.members.specs.Posts.{remark_on, any_schema}
-use Rattle.members.proofs.Filling.{went_noted}
+use Rattle.members.specs.Posts.{remark_on, Marked, any_schema}
+use Rattle.members.proofs.Filling.{went_noted, went_marked}
 use Rattle.runs.specs.declared.Ran.{Ran}
 use Rattle.runs.specs.declared.Ran.TheVariants as Rn
 use Rattle.runs.specs.Posts.{Grew, Yields, plain_run}
 
 -- a remark stops a run
-stops_is : (F : Bytes) (d : Def) (m : coded.Member) (kind detail : ℕ) (s : State) → stops (def_of F d) (member_of m) kind detail s ≡ done none (with_remark (remark_on d m kind detail) s)
+stops_is : (F : Bytes) (d : Def) (m : coded.Member) (kind detail : ℕ) (s : State) → stops (def_of F d) (member_of m) kind detail s ≡ done None (with_remark (remark_on d m kind detail) s)
 unfolding stops says remark bind after ret def_of
 stops_is F d m kind detail s = refl
 
@@ -55,7 +56,7 @@ module _ (R : Round) (n : ℕ) (p : Progress) (w : Bytes) where
   }
 
   -- nothing is done
-  nothing_run : Safe R n p → Yields any_schema R n p w 0 (λ S. ret none) (Rn.Dropped p) w
+  nothing_run : Safe R n p → Yields any_schema R n p w 0 (λ S. ret None) (Rn.Dropped p) w
   unfolding ret
   nothing_run h = record {
     grew = (h, record { more = omega arith; paid = omega arith; top = omega arith; met = omega arith });
@@ -79,34 +80,34 @@ module _ (R : Round) (n : ℕ) (p : Progress) (w : Bytes) where
 padded_exact : (k : ℕ) (b : Bytes) → length b ≡ k → padded k b ≡ b
 padded_exact k b e = let z : k - length b ≡ 0 = omega (arith, e) in padded_is k b (omega (arith, e)) ∙ ap (λ (j : ℕ). b ++ zeros j) z ∙ append-nil b
 
-module _ (E : Env) (F : Bytes) where
+module _ (E : Env) where
   -- a hash
-  hash_cells : hash_element E ≡ cell_element E.sheet F C.Hash 4
+  hash_cells : hash_element E ≡ cell_element E.sheet C.Hash 4
   unfolding hash_element cell_element cell_bytes fit_m
   hash_cells = fun_ext λ r. by_hash (hash_of E.sheet (row E.sheet r))
     where
-      by_hash : (o : Option ℕ) → ret (map_option (bytes_of 4) o) ≡ fit_m (fit_or (map_option (bytes_of 4) o) unfit) (ret none) (λ bs. ret (some (padded 4 bs)))
-      by_hash none = refl
-      by_hash (some h) = ap (λ (b : Bytes). ret (some b)) (sym (padded_exact 4 (bytes_of 4 h) (length_bytes 4 h)))
+      by_hash : (o : Option ℕ) → ret (option_map (bytes_of 4) o) ≡ fit_m (fit_or (option_map (bytes_of 4) o) (Err Unfit)) (ret None) (λ bs. ret (Some (padded 4 bs)))
+      by_hash None = refl
+      by_hash (Some h) = ap (λ (b : Bytes). ret (Some b)) (sym (padded_exact 4 (bytes_of 4 h) (length_bytes 4 h)))
 
   -- a text in len bytes
-  fixed_cells : (len : ℕ) → fixed_element E len ≡ cell_element E.sheet F (C.Fixed len) len
+  fixed_cells : (len : ℕ) → fixed_element E len ≡ cell_element E.sheet (C.Fixed len) len
   unfolding fixed_element cell_element cell_bytes fit_m
   fixed_cells len = fun_ext λ r. by_text (str_of E.sheet (row E.sheet r))
     where
-      by_text : (o : Option Bytes) → ret (map_option (λ t. padded len (take (len - 1) t)) o) ≡ fit_m (fit_or (map_option (take (len - 1)) o) unfit) (ret none) (λ bs. ret (some (padded len bs)))
-      by_text none = refl
-      by_text (some t) = refl
+      by_text : (o : Option Bytes) → ret (option_map (λ t. padded len (take (len - 1) t)) o) ≡ fit_m (fit_or (option_map (take (len - 1)) o) (Err Unfit)) (ret None) (λ bs. ret (Some (padded len bs)))
+      by_text None = refl
+      by_text (Some t) = refl
 
   -- an enum's value
-  enum_cells : (h at n : ℕ) → entries_of E.defs h ≡ entries_at F n at → enum_element E h ≡ cell_element E.sheet F (C.Enum at n 4) 4
+  enum_cells : (h : ℕ) (en : Entries) → entries_of E.defs h ≡ all_of en → enum_element E h ≡ cell_element E.sheet (C.Enum en 4) 4
   unfolding enum_element cell_element cell_bytes fit_m
-  enum_cells h at n e = fun_ext λ r. rw e (by_value (enum_value E.sheet (entries_at F n at) (row E.sheet r)))
+  enum_cells h en e = fun_ext λ r. rw e (by_value (enum_value E.sheet (all_of en) (row E.sheet r)))
     where
-      by_value : (x : Fit ℕ) → fit_m x (ret none) (λ x. ret (some (bytes_of 4 x))) ≡ fit_m (map_fit (bytes_of 4) x) (ret none) (λ bs. ret (some (padded 4 bs)))
-      by_value (fits x) = ap (λ (b : Bytes). ret (some b)) (sym (padded_exact 4 (bytes_of 4 x) (length_bytes 4 x)))
-      by_value unfit = refl
-      by_value float_text = refl
+      by_value : (x : Fit ℕ) → fit_m x (ret None) (λ x. ret (Some (bytes_of 4 x))) ≡ fit_m (map_fit (bytes_of 4) x) (ret None) (λ bs. ret (Some (padded 4 bs)))
+      by_value (Ok x) = ap (λ (b : Bytes). ret (Some b)) (sym (padded_exact 4 (bytes_of 4 x) (length_bytes 4 x)))
+      by_value (Err Unfit) = refl
+      by_value (Err FloatText) = refl
 
   -- texts, by their subtype
   module _ (d : StructDef) (e x : Defs.Member) (rs : List ℕ) where
@@ -114,7 +115,7 @@ module _ (E : Env) (F : Bytes) where
     unfolding text_run fixed_run if_m
     text_zero len h l z = rw (eq-eqb x.subtype 0 h, eq-eqb (high16 x.reference) 0 (sym l ∙ z)) refl
 
-    text_cells : (len : ℕ) → x.subtype ≡ 0 → len ≡ high16 x.reference → (len ≡ 0 → ⊥) → text_run E d e x rs ≡ run E len 1 (cell_element E.sheet F (C.Fixed len) len) rs
+    text_cells : (len : ℕ) → x.subtype ≡ 0 → len ≡ high16 x.reference → (len ≡ 0 → ⊥) → text_run E d e x rs ≡ run E len 1 (cell_element E.sheet (C.Fixed len) len) rs
     unfolding text_run fixed_run if_m
     text_cells len h l z =
         rw (eq-eqb x.subtype 0 h, ← l, ne_eqb len 0 z) (ap (λ f. run E len 1 f rs) (fixed_cells len))
@@ -123,11 +124,11 @@ module _ (E : Env) (F : Bytes) where
     unfolding text_run if_m
     text_pointers h l = rw (ne_eqb x.subtype 0 h, le-leb 1 x.subtype (omega (arith, h)), le-leb x.subtype 3 (omega (arith, l))) refl
 
-    text_hashes : 7 ≤ x.subtype → x.subtype < 9 → text_run E d e x rs ≡ run E 4 6 (cell_element E.sheet F C.Hash 4) rs
+    text_hashes : 7 ≤ x.subtype → x.subtype < 9 → text_run E d e x rs ≡ run E 4 6 (cell_element E.sheet C.Hash 4) rs
     unfolding text_run if_m
     text_hashes h l = by_seven (eqb x.subtype 7) refl
       where
-        by_seven : (b : Bool) → eqb x.subtype 7 ≡ b → text_run E d e x rs ≡ run E 4 6 (cell_element E.sheet F C.Hash 4) rs
+        by_seven : (b : Bool) → eqb x.subtype 7 ≡ b → text_run E d e x rs ≡ run E 4 6 (cell_element E.sheet C.Hash 4) rs
         by_seven true g = let q : x.subtype ≡ 7 = eqb-true x.subtype 7 g in rw q (ap (λ f. run E 4 6 f rs) hash_cells)
         by_seven false g =
             let n = eqb-false x.subtype 7 g in
@@ -150,40 +151,37 @@ module _ (E : Env) (F : Bytes) where
 
 -- an enum's run
 
-enum_none : (E : Env) (F : Bytes) (h : ℕ) (rs : List ℕ) → E.defs.enum h ≡ none → enum_run E h rs ≡ run E 4 5 (cell_element E.sheet F (C.Enum 0 0 4) 4) rs
-unfolding enum_run use_enum_of if_m bind after ret entries_at
-enum_none E F h rs e = fun_ext λ s. rw (e, enum_cells E F h 0 0 (rw e refl)) refl
+enum_used : (E : Env) (h : ℕ) (en : Entries) (rs : List ℕ) (b : Bool) → is_some (E.defs.enum h) ≡ b → entries_of E.defs h ≡ all_of en
+    → enum_run E h rs ≡ bind (if_m b (use_enum h) (ret tt)) λ _. run E 4 5 (cell_element E.sheet (C.Enum en 4) 4) rs
+unfolding enum_run use_enum_of
+enum_used E h en rs b e l = rw (e, enum_cells E h en l) refl
 
-enum_some : (E : Env) (F : Bytes) (h from n : ℕ) (rs : List ℕ) (x : Defs.EnumDef) (s : State) → E.defs.enum h ≡ some x → x.entries ≡ entries_at F n from
-    → enum_run E h rs s ≡ run E 4 5 (cell_element E.sheet F (C.Enum from n 4) 4) rs (used_in h s)
-unfolding enum_run use_enum_of if_m bind after use_enum log_enum on_core settle use_enum_c
-enum_some E F h from n rs x s e l = rw (e, enum_cells E F h from n (rw e l)) refl
-
-here : (F : Bytes) (h at count : ℕ) → count ≡ read_at 3 F (at + 1) → (enum_here F h at).entries ≡ entries_at F count (at + 4)
-unfolding enum_here
-here F h at count g = ap (λ (j : ℕ). entries_at F j (at + 4)) (sym g)
-
-module _ (R : Round) (n : ℕ) (p : Progress) (w T F : Bytes) (h : ℕ) (rs : List ℕ) (f : Found) (is : (S : Schema) → schema_of F ≡ ok S → (winning S).enum h ≡ enum_found F h f) where
+module _ (R : Round) (n : ℕ) (p : Progress) (w T F : Bytes) (h : ℕ) (rs : List ℕ) (en : Entries) (name : Option ℕ) (is : Named F h en name) where
   abbrev Enums : Ran → Bytes → Type 0
   Enums r v = Yields (λ S. schema_of F ≡ ok S) R n p w 0 (λ S. enum_run (env_of T S R) h rs) r v
 
+  abbrev values : Schema → M (Option Run)
+  values S = run (env_of T S R) 4 5 (cell_element T (C.Enum en 4) 4) rs
+
   -- no enum has the name
-  pub enums_none : (r : Ran) (w' : Bytes) → f ≡ Nothing → Yields any_schema R n p w 0 (λ S. run (env_of T S R) 4 5 (cell_element T F (C.Enum 0 0 4) 4) rs) r w' → Enums r w'
+  enums_none : (r : Ran) (w' : Bytes) → name ≡ None → Yields any_schema R n p w 0 values r w' → Enums r w'
+  unfolding if_m bind after ret
   enums_none r w' e a =
-      yields_as R n p w (λ S. schema_of F ≡ ok S) any_schema 0 0 (λ S. enum_run (env_of T S R) h rs) (λ S. run (env_of T S R) 4 5 (cell_element T F (C.Enum 0 0 4) 4) rs) r w' (omega arith)
-      (λ S k. (tt, enum_none (env_of T S R) F h rs (is S k ∙ ap (enum_found F h) e))) a
+      yields_as R n p w (λ S. schema_of F ≡ ok S) any_schema 0 0 (λ S. enum_run (env_of T S R) h rs) values r w' (omega arith)
+      (λ S k. (tt, enum_used (env_of T S R) h en rs false (is.used S k ∙ ap is_some e) (is.all S k) ∙ fun_ext λ s. refl)) a
 
   -- one has, and is used
-  pub enums_some : (at from count : ℕ) (q : Progress) (v : Bytes) (k : ℕ) (r : Ran) (w' : Bytes) → Safe R n p → f ≡ At at → count ≡ read_at 3 F (at + 1) → entries_at F count from ≡ entries_at F count (at + 4)
-      → Marks R n p w (λ S. is_some ((winning S).enum h)) (used_in h) q v → k ≡ n → Yields any_schema R k q v 0 (λ S. run (env_of T S R) 4 5 (cell_element T F (C.Enum from count 4) 4) rs) r w' → Enums r w'
-  enums_some at from count q v k r w' o e g l t u a =
+  enums_some : (q : Progress) (v : Bytes) (r : Ran) (w' : Bytes) → name ≡ Some h
+      → Marks R n p w (λ S. is_some ((winning S).enum h)) (used_in h) q v → Yields any_schema R n q v 0 values r w' → Enums r w'
+  unfolding if_m bind after use_enum log_enum on_core settle use_enum_c
+  enums_some q v r w' e t a =
       record {
-        grew = grew_then r (rw (← u) a.grew);
+        grew = grew_then r a.grew;
         says =
             λ S z s σ y.
-            let m : (winning S).enum h ≡ some (enum_here F h at) = is S z ∙ ap (enum_found F h) e in
-            rw (enum_some (env_of T S R) F h from count rs (enum_here F h at) s m (here F h at count g ∙ sym l))
-            (rw (← u) (a.says S tt (used_in h s) σ (rw u (t.says S s σ (rw m refl) y))));
+            let m : is_some ((winning S).enum h) ≡ true = is.used S z ∙ ap is_some e in
+            rw (enum_used (env_of T S R) h en rs true m (is.all S z))
+            (a.says S tt (used_in h s) σ (t.says S s σ m y));
       }
     where
       grew_then : (r : Ran) → Grew R n q 0 r → Grew R n p 0 r
@@ -203,13 +201,28 @@ module _ (R : Round) (n : ℕ) (p : Progress) (w T F : Bytes) (h : ℕ) (rs : Li
           (y.0, record { more = omega (arith, z.more, t.end); paid = omega (arith, z.paid, t.end, t.charge); top = omega (arith, z.top, t.top); met = omega (arith, z.met, t.seen, t.charge) })
       grew_then (Rn.Refused b x) y = y
 
+  -- the enum is used, if it is there
+  pub enums : (q : Progress) (v : Bytes) (k : ℕ) (r : Ran) (w' : Bytes) → Marked R n p w name q v → k ≡ n → Yields any_schema R k q v 0 values r w' → Enums r w'
+  enums q v k r w' t u a = by name refl t (rw (← u) a)
+    where
+      by : (o : Option ℕ) → name ≡ o → Marked R n p w o q v → Yields any_schema R n q v 0 values r w' → Enums r w'
+      by None e m a = enums_none r w' e (rw (← m.0, ← m.1) a)
+      by (Some x) e m a =
+          let i : x ≡ h = named_own F h en name is x e in
+          enums_some q v r w' (rw (← i) e) (rw (← i) m) a
+
+-- where an enum was used or not, the numbers stay in order
+pub marked_safe : (R : Round) (n : ℕ) (p : Progress) (w : Bytes) (name : Option ℕ) (q : Progress) (v : Bytes) → Safe R n p → Marked R n p w name q v → Safe R n q
+marked_safe R n p w None q v h m = rw m.0 h
+marked_safe R n p w (Some x) q v h m = (went_marked R n p w (λ S. is_some ((winning S).enum x)) (used_in x) w q v 0 h m).0
+
 -- runs by their elements' kind
 
-scalar_cells : (E : Env) (F : Bytes) (s : Kinds.Scalar) → scalar_element E s ≡ cell_element E.sheet F (scalar_cell s) (scalar_stride s)
+scalar_cells : (E : Env) (s : Kinds.Scalar) → scalar_element E s ≡ cell_element E.sheet (scalar_cell s) (scalar_stride s)
 unfolding scalar_element cell_element cell_bytes Kinds.scalar_bytes
-scalar_cells E F (Kinds.integer k) = refl
-scalar_cells E F Kinds.single = refl
-scalar_cells E F (Kinds.vector n) = refl
+scalar_cells E (Kinds.integer k) = refl
+scalar_cells E Kinds.single = refl
+scalar_cells E (Kinds.vector n) = refl
 
 -- kinds that are no elements
 abbrev is_strange : Kinds.Kind → Bool
@@ -223,9 +236,9 @@ is_strange Kinds.map = true
 is_strange Kinds.other = true
 
 module _ (E : Env) (d : StructDef) (e x : Defs.Member) (rs : List ℕ) where
-  scalar_run : (F : Bytes) (s : Kinds.Scalar) → plain_run E d e x (Kinds.scalar s) rs ≡ run E (scalar_stride s) (scalar_block s x.type) (cell_element E.sheet F (scalar_cell s) (scalar_stride s)) rs
+  scalar_run : (s : Kinds.Scalar) → plain_run E d e x (Kinds.scalar s) rs ≡ run E (scalar_stride s) (scalar_block s x.type) (cell_element E.sheet (scalar_cell s) (scalar_stride s)) rs
   unfolding plain_run
-  scalar_run F s = ap (λ f. run E (scalar_stride s) (scalar_block s x.type) f rs) (scalar_cells E F s)
+  scalar_run s = ap (λ f. run E (scalar_stride s) (scalar_block s x.type) f rs) (scalar_cells E s)
 
   text_run_law : plain_run E d e x Kinds.text rs ≡ text_run E d e x rs
   unfolding plain_run
@@ -235,7 +248,7 @@ module _ (E : Env) (d : StructDef) (e x : Defs.Member) (rs : List ℕ) where
   unfolding plain_run
   enum_run_law = refl
 
-  structure_run : plain_run E d e x Kinds.structure rs ≡ ret none
+  structure_run : plain_run E d e x Kinds.structure rs ≡ ret None
   unfolding plain_run
   structure_run = refl
 
@@ -261,10 +274,10 @@ module _ (R : Round) (n : ℕ) (p : Progress) (w T F : Bytes) (d : Def) (m x : c
       rw e (yields_as R n p w (λ S. schema_of F ≡ ok S) less j 1 (λ S. plain_run (env_of T S R) (def_of F d) (member_of m) (member_of x) k rs) g r w' l i a)
 
   pub plain_scalar : (s : Kinds.Scalar) (stride block : ℕ) (r : Ran) (w' : Bytes) → Kinds.kind_of x.kind ≡ Kinds.scalar s → stride ≡ scalar_stride s → block ≡ scalar_block s x.kind
-      → Yields any_schema R n p w 0 (λ S. run (env_of T S R) stride block (cell_element T F (scalar_cell s) stride) rs) r w' → Plain r w'
+      → Yields any_schema R n p w 0 (λ S. run (env_of T S R) stride block (cell_element T (scalar_cell s) stride) rs) r w' → Plain r w'
   plain_scalar s stride block r w' k e b a =
-      plain_as any_schema 0 (Kinds.scalar s) (λ S. run (env_of T S R) stride block (cell_element T F (scalar_cell s) stride) rs) r w' (omega arith) k
-      (λ S z. (tt, rw (e, b) (scalar_run (env_of T S R) (def_of F d) (member_of m) (member_of x) rs F s))) a
+      plain_as any_schema 0 (Kinds.scalar s) (λ S. run (env_of T S R) stride block (cell_element T (scalar_cell s) stride) rs) r w' (omega arith) k
+      (λ S z. (tt, rw (e, b) (scalar_run (env_of T S R) (def_of F d) (member_of m) (member_of x) rs s))) a
 
   pub plain_text : (r : Ran) (w' : Bytes) → Kinds.kind_of x.kind ≡ Kinds.text → Yields any_schema R n p w 1 (λ S. text_run (env_of T S R) (def_of F d) (member_of m) (member_of x) rs) r w' → Plain r w'
   plain_text r w' k a =
@@ -278,7 +291,7 @@ module _ (R : Round) (n : ℕ) (p : Progress) (w T F : Bytes) (d : Def) (m x : c
 
   pub plain_structure : Safe R n p → Kinds.kind_of x.kind ≡ Kinds.structure → Plain (Rn.Dropped p) w
   plain_structure h k =
-      plain_as any_schema 0 Kinds.structure (λ S. ret none) (Rn.Dropped p) w (omega arith) k (λ S z. (tt, structure_run (env_of T S R) (def_of F d) (member_of m) (member_of x) rs))
+      plain_as any_schema 0 Kinds.structure (λ S. ret None) (Rn.Dropped p) w (omega arith) k (λ S z. (tt, structure_run (env_of T S R) (def_of F d) (member_of m) (member_of x) rs))
       (nothing_run R n p w h)
 
   pub plain_strange : (k : Kinds.Kind) (r : Ran) (w' : Bytes) → Kinds.kind_of x.kind ≡ k → is_strange k ≡ true → Yields any_schema R n p w 1 (λ S. stops (def_of F d) (member_of m) 12 x.kind) r w' → Plain r w'
@@ -295,27 +308,27 @@ module _ (R : Round) (n : ℕ) (p : Progress) (w T F : Bytes) (d : Def) (m x : c
 
   pub texts_zero : (len : ℕ) (r : Ran) (w' : Bytes) → x.subtype ≡ 0 → len ≡ high16 x.reference → len ≡ 0 → Yields any_schema R n p w 1 (λ S. stops (def_of F d) (member_of m) 10 0) r w' → TextRuns r w'
   texts_zero len r w' h l z a =
-      texts_as 1 (λ S. stops (def_of F d) (member_of m) 10 0) r w' (omega arith) (λ S. text_zero (env_of T S R) F (def_of F d) (member_of m) (member_of x) rs len h l z) a
+      texts_as 1 (λ S. stops (def_of F d) (member_of m) 10 0) r w' (omega arith) (λ S. text_zero (env_of T S R) (def_of F d) (member_of m) (member_of x) rs len h l z) a
 
   pub texts_fixed : (len : ℕ) (r : Ran) (w' : Bytes) → x.subtype ≡ 0 → len ≡ high16 x.reference → (len ≡ 0 → ⊥)
-      → Yields any_schema R n p w 0 (λ S. run (env_of T S R) len 1 (cell_element T F (C.Fixed len) len) rs) r w' → TextRuns r w'
+      → Yields any_schema R n p w 0 (λ S. run (env_of T S R) len 1 (cell_element T (C.Fixed len) len) rs) r w' → TextRuns r w'
   texts_fixed len r w' h l z a =
-      texts_as 0 (λ S. run (env_of T S R) len 1 (cell_element T F (C.Fixed len) len) rs) r w' (omega arith) (λ S. text_cells (env_of T S R) F (def_of F d) (member_of m) (member_of x) rs len h l z) a
+      texts_as 0 (λ S. run (env_of T S R) len 1 (cell_element T (C.Fixed len) len) rs) r w' (omega arith) (λ S. text_cells (env_of T S R) (def_of F d) (member_of m) (member_of x) rs len h l z) a
 
   pub texts_pointed : (r : Ran) (w' : Bytes) → (x.subtype ≡ 0 → ⊥) → x.subtype < 4
       → Yields any_schema R n p w 0 (λ S. run (env_of T S R) (slot_size x.subtype) (slot_block x.subtype) (text_element (env_of T S R) x.subtype) rs) r w' → TextRuns r w'
   texts_pointed r w' h l a =
       texts_as 0 (λ S. run (env_of T S R) (slot_size x.subtype) (slot_block x.subtype) (text_element (env_of T S R) x.subtype) rs) r w' (omega arith)
-      (λ S. text_pointers (env_of T S R) F (def_of F d) (member_of m) (member_of x) rs h l) a
+      (λ S. text_pointers (env_of T S R) (def_of F d) (member_of m) (member_of x) rs h l) a
 
-  pub texts_hashed : (r : Ran) (w' : Bytes) → 7 ≤ x.subtype → x.subtype < 9 → Yields any_schema R n p w 0 (λ S. run (env_of T S R) 4 6 (cell_element T F C.Hash 4) rs) r w' → TextRuns r w'
+  pub texts_hashed : (r : Ran) (w' : Bytes) → 7 ≤ x.subtype → x.subtype < 9 → Yields any_schema R n p w 0 (λ S. run (env_of T S R) 4 6 (cell_element T C.Hash 4) rs) r w' → TextRuns r w'
   texts_hashed r w' h l a =
-      texts_as 0 (λ S. run (env_of T S R) 4 6 (cell_element T F C.Hash 4) rs) r w' (omega arith) (λ S. text_hashes (env_of T S R) F (def_of F d) (member_of m) (member_of x) rs h l) a
+      texts_as 0 (λ S. run (env_of T S R) 4 6 (cell_element T C.Hash 4) rs) r w' (omega arith) (λ S. text_hashes (env_of T S R) (def_of F d) (member_of m) (member_of x) rs h l) a
 
   pub texts_strange : {A B : Type 0} (r : Ran) (w' : Bytes) → 4 ≤ x.subtype → (A → x.subtype < 7) → (B → 9 ≤ x.subtype) → A ⊎ B
       → Yields any_schema R n p w 1 (λ S. stops (def_of F d) (member_of m) 11 x.subtype) r w' → TextRuns r w'
   texts_strange r w' h f g l a =
-      texts_as 1 (λ S. stops (def_of F d) (member_of m) 11 x.subtype) r w' (omega arith) (λ S. text_stops (env_of T S R) F (def_of F d) (member_of m) (member_of x) rs h f g l) a
+      texts_as 1 (λ S. stops (def_of F d) (member_of m) 11 x.subtype) r w' (omega arith) (λ S. text_stops (env_of T S R) (def_of F d) (member_of m) (member_of x) rs h f g l) a
 
 -- there is room for a vector's numbers in its element
 pub vector_room : (n r : ℕ) → n ≤ 4 → r ≡ scalar_stride (Kinds.vector n) → 4 * n ≤ r

@@ -1,8 +1,8 @@
 -- Runs, element by element, whatever the elements are. No line here names a place of the code. Assumes nothing.
+use Rattle.std.specs.Prelude.{Option, Some, None, option_map}
 use mathlib.Core.Path.{◌≡◌, refl, sym, ap, subst, ◌∙◌}
 use mathlib.Core.Bool.{Bool, true, false}
 use mathlib.Core.List.{List, [], ◌∷◌, ◌++◌, append_assoc, append-nil}
-use mathlib.Core.Option.{Option, none, some}
 use Prim.Native.Nat.{ℕ, zero, suc, ◌+◌, ◌-◌, ◌*◌, ◌^◌, ◌≤◌, ◌<◌}
 use native.Mathlib.Omega.{arith}
 use borrow.Author.Tests.{leb-true}
@@ -10,7 +10,6 @@ use native.Mathlib.Nat.{mul-le-mul, mul-le-mul_left, mul-le-mul_right, mul_assoc
 use lib.Dec.{leb}
 use lib.ListN.{length, drop, length-append, drop_of_length-le}
 use Rattle.numbers.specs.Words.{Bytes}
-use Rattle.numbers.specs.Result.{map_option}
 use Rattle.value.specs.Rows.{rows_from}
 use Rattle.schema.specs.Defs.{Schema}
 use Rattle.layout.specs.State.{Remark, State, Env, Out, done, stop, M, after, bind, ret, opt_m, pay, with_charge}
@@ -31,17 +30,17 @@ use Rattle.runs.specs.Posts.{Yields}
 
 -- what the elements so far give stands before what the others give
 abbrev pub join_out : Bytes → Out (Option Bytes) → Out (Option Bytes)
-join_out b (done o t) = done (map_option (λ (x : Bytes). b ++ x) o) t
+join_out b (done o t) = done (option_map (λ (x : Bytes). b ++ x) o) t
 join_out b (stop k es) = stop k es
 
 join_nil : (o : Out (Option Bytes)) → o ≡ join_out [] o
-join_nil (done none t) = refl
-join_nil (done (some b) t) = refl
+join_nil (done None t) = refl
+join_nil (done (Some b) t) = refl
 join_nil (stop k es) = refl
 
 join_join : (a b : Bytes) (o : Out (Option Bytes)) → join_out a (join_out b o) ≡ join_out (a ++ b) o
-join_join a b (done none t) = refl
-join_join a b (done (some x) t) = ap (λ (y : Bytes). done (some y) t) (sym (append_assoc a b x))
+join_join a b (done None t) = refl
+join_join a b (done (Some x) t) = ap (λ (y : Bytes). done (Some y) t) (sym (append_assoc a b x))
 join_join a b (stop k es) = refl
 
 -- x is the i-th of a list, from 0
@@ -49,17 +48,17 @@ abbrev pub Ith : {X : Type 0} → X → ℕ → List X → Type 0
 Ith x i xs = drop i xs ≡ x ∷ drop (i + 1) xs
 
 module _ {X : Type 0} (f : X → M (Option Bytes)) where
-  joined : (b : Bytes) (o : Out (Option Bytes)) → after o (λ p. opt_m p (ret none) λ bs. ret (some (b ++ bs))) ≡ join_out b o
+  joined : (b : Bytes) (o : Out (Option Bytes)) → after o (λ p. opt_m p (ret None) λ bs. ret (Some (b ++ bs))) ≡ join_out b o
   unfolding after opt_m ret
-  joined b (done none t) = refl
-  joined b (done (some x) t) = refl
+  joined b (done None t) = refl
+  joined b (done (Some x) t) = refl
   joined b (stop k es) = refl
 
-  elements_some : (x : X) (xs : List X) (b : Bytes) (s t : State) → f x s ≡ done (some b) t → elements f (x ∷ xs) s ≡ join_out b (elements f xs t)
+  elements_some : (x : X) (xs : List X) (b : Bytes) (s t : State) → f x s ≡ done (Some b) t → elements f (x ∷ xs) s ≡ join_out b (elements f xs t)
   unfolding elements bind after opt_m
   elements_some x xs b s t e = rw e (joined b (elements f xs t))
 
-  elements_none : (x : X) (xs : List X) (s t : State) → f x s ≡ done none t → elements f (x ∷ xs) s ≡ done none t
+  elements_none : (x : X) (xs : List X) (s t : State) → f x s ≡ done None t → elements f (x ∷ xs) s ≡ done None t
   unfolding elements bind after opt_m ret
   elements_none x xs s t e = rw e refl
 
@@ -78,7 +77,7 @@ module _ {S : Schema} {R : Round} {n : ℕ} {σ : Bytes} {X : Type 0} {f : X →
   pub along_begin : Rep S R n s σ p w → Along S R n σ f xs s p w 0
   along_begin r = record { state = s; bytes = []; rep = rw (append-nil σ) r; rest = join_nil (elements f xs s) }
 
-  pub along_turn : {i : ℕ} {x : X} {b : Bytes} {t : State} {q : Progress} {v : Bytes} (a : Along S R n σ f xs s p w i) → Ith x i xs → f x a.state ≡ done (some b) t
+  pub along_turn : {i : ℕ} {x : X} {b : Bytes} {t : State} {q : Progress} {v : Bytes} (a : Along S R n σ f xs s p w i) → Ith x i xs → f x a.state ≡ done (Some b) t
       → Rep S R n t (σ ++ (a.bytes ++ b)) q v → Along S R n σ f xs s q v (i + 1)
   along_turn {i} {x} {b} {t} a e g r =
       record {
@@ -90,13 +89,13 @@ module _ {S : Schema} {R : Round} {n : ℕ} {σ : Bytes} {X : Type 0} {f : X →
             ∙ ap (join_out a.bytes) (elements_some f x (drop (i + 1) xs) b a.state t g) ∙ join_join a.bytes b (elements f (drop (i + 1) xs) t);
       }
 
-  pub along_end : {i : ℕ} (a : Along S R n σ f xs s p w i) → length xs ≤ i → elements f xs s ≡ done (some a.bytes) a.state
+  pub along_end : {i : ℕ} (a : Along S R n σ f xs s p w i) → length xs ≤ i → elements f xs s ≡ done (Some a.bytes) a.state
   unfolding elements ret
   along_end {i} a h =
       a.rest ∙ ap (λ (l : List X). join_out a.bytes (elements f l a.state)) (drop_of_length-le xs h)
-      ∙ ap (λ (b : Bytes). done (some b) a.state) (append-nil a.bytes)
+      ∙ ap (λ (b : Bytes). done (Some b) a.state) (append-nil a.bytes)
 
-  pub along_drop : {i : ℕ} {x : X} {t : State} (a : Along S R n σ f xs s p w i) → Ith x i xs → f x a.state ≡ done none t → elements f xs s ≡ done none t
+  pub along_drop : {i : ℕ} {x : X} {t : State} (a : Along S R n σ f xs s p w i) → Ith x i xs → f x a.state ≡ done None t → elements f xs s ≡ done None t
   along_drop {i} {x} {t} a e g =
       a.rest ∙ ap (λ (l : List X). join_out a.bytes (elements f l a.state)) e
       ∙ ap (join_out a.bytes) (elements_none f x (drop (i + 1) xs) a.state t g)
@@ -163,13 +162,13 @@ ready {R} {n} {p} stride m h d =
 pub record Made (S : Schema) (R : Round) (n : ℕ) (τ : Bytes) (o : Out (Option Bytes)) (q : Progress) (v : Bytes) : Type 0 where
   pub state : State
   pub bytes : Bytes
-  pub is : o ≡ done (some bytes) state
+  pub is : o ≡ done (Some bytes) state
   pub rep : Rep S R n state (τ ++ bytes) q v
 
 -- an element fails: the run is dropped
 pub record Fails (S : Schema) (R : Round) (n : ℕ) (τ : Bytes) (o : Out (Option Bytes)) (q : Progress) (v : Bytes) : Type 0 where
   pub state : State
-  pub is : o ≡ done none state
+  pub is : o ≡ done None state
   pub rep : Rep S R n state τ q v
 
 -- an element is refused
@@ -186,10 +185,10 @@ pub record Running (known : Schema → Type 0) (R : Round) (n : ℕ) (s : Progre
 
 module _ {X : Type 0} (E : Env) (stride block : ℕ) (f : X → M (Option Bytes)) (xs : List X) where
   abbrev named : Out (Option Bytes) → Out (Option Run)
-  named (done o t) = done (map_option (λ (bs : Bytes). record { bytes = bs; block = block }) o) t
+  named (done o t) = done (option_map (λ (bs : Bytes). record { bytes = bs; block = block }) o) t
   named (stop k es) = stop k es
 
-  named_is : (o : Out (Option Bytes)) → after o (λ o. ret (map_option (λ bs. record { bytes = bs; block = block }) o)) ≡ named o
+  named_is : (o : Out (Option Bytes)) → after o (λ o. ret (option_map (λ bs. record { bytes = bs; block = block }) o)) ≡ named o
   unfolding after ret
   named_is (done o t) = refl
   named_is (stop k es) = refl

@@ -1,8 +1,6 @@
 -- What the contracts say of runs.
-use Rattle.std.specs.Prelude.{ℕ, ◌+◌, ◌-◌, ◌≤◌, ◌≡◌, List, [], ◌++◌}
-use Rattle.std.proofs.Math.Option.{Option, none, some}
+use Rattle.std.specs.Prelude.{ℕ, ◌+◌, ◌-◌, ◌≤◌, ◌≡◌, List, [], ◌++◌, Option, Some, None, unwrap_or, option_map}
 use Rattle.numbers.specs.Words.{Bytes}
-use Rattle.numbers.specs.Result.{map_option, or_value}
 use Rattle.schema.specs.Defs
 use Rattle.schema.specs.Defs.{Schema, StructDef}
 use Rattle.definitions.specs.declared.members.Member as coded
@@ -21,8 +19,8 @@ use Rattle.runs.specs.declared.Ran.TheVariants as Rn
 
 -- the name of the run's block, or none where it is dropped
 abbrev pub ran_is : Ran → Ans (Option ℕ)
-ran_is (Rn.Kept b q) = gives (some b) q
-ran_is (Rn.Dropped q) = gives none q
+ran_is (Rn.Kept b q) = gives (Some b) q
+ran_is (Rn.Dropped q) = gives None q
 ran_is (Rn.Refused k q) = refuses k q
 
 -- a remark is met, and the run is dropped
@@ -37,20 +35,20 @@ Grew R n p notes (Rn.Refused k q) = Safe R n q
 
 -- a run's bytes
 abbrev pub run_bytes : Option Run → Bytes
-run_bytes o = or_value (map_option (λ r. r.bytes) o) []
+run_bytes o = unwrap_or (option_map (λ r. r.bytes) o) []
 
 -- a run is written: f gives its bytes, which are then on top of the stack, or none
 pub record Yields (known : Schema → Type 0) (R : Round) (n : ℕ) (p : Progress) (w : Bytes) (notes : ℕ) (f : Schema → M (Option Run)) (r : Ran) (w' : Bytes) : Type 0 where
   pub grew : Grew R n p notes r
   pub says : (S : Schema) → known S → (s : State) (σ : Bytes) → Rep S R n s σ p w
-      → Meets S R n (λ o. σ ++ run_bytes o) (λ o x. map_option (λ r. r.block) o ≡ x) (f S s) (ran_is r) w'
+      → Meets S R n (λ o. σ ++ run_bytes o) (λ o x. option_map (λ r. r.block) o ≡ x) (f S s) (ran_is r) w'
 
 -- a run whose elements lead to no structure
 unfoldable pub plain_run : Env → StructDef → Defs.Member → Defs.Member → Kinds.Kind → List ℕ → M (Option Run)
 plain_run E d e x (Kinds.scalar s) rs = runs.run E (runs.scalar_stride s) (runs.scalar_block s x.type) (runs.scalar_element E s) rs
 plain_run E d e x Kinds.text rs = runs.text_run E d e x rs
 plain_run E d e x Kinds.enumeration rs = runs.enum_run E x.reference rs
-plain_run E d e x Kinds.structure rs = ret none
+plain_run E d e x Kinds.structure rs = ret None
 plain_run E d e x Kinds.array rs = runs.stops d e 12 x.type
 plain_run E d e x Kinds.flags rs = runs.stops d e 12 x.type
 plain_run E d e x Kinds.map rs = runs.stops d e 12 x.type

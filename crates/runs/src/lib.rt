@@ -16,16 +16,18 @@ ghost use Rattle.cells.specs.Cells.{Sane, cell_size, cell_element};
 ghost use Rattle.members.specs.Posts.{any_schema};
 ghost use Rattle.runs.specs.Posts.{stop_in, Yields, plain_run};
 
-use area::used::use_enum;
 use area::{Progress, Round};
-use cells::defs::{Def, entries_at, high_half};
+use cells::defs::{Def, high_half, named};
 use cells::kinds::{Kind, kind_of};
-use cells::{Cell, Put, put_cell};
+use cells::{Cell, put_cell};
+use coerce::misfit::Misfit;
 use coerce::whole::str_of;
-use definitions::lookup::{Found, find_enum};
+use definitions::lookup::find;
 use definitions::members::{Member, entry_count};
+use members::member::used;
 use members::slots::{slot_size, text_slot};
 use members::{Wrote, drop_run, pay, say};
+use schema::kind;
 use value::read_row;
 
 // A run's bytes are on the stack, and the name of its block; or the run is dropped; or a refusal.
@@ -46,11 +48,10 @@ pub fn run_cost(stride: u32, n: u32) -> usize
 // A run of n cells of `stride` bytes each; the first that does not fit drops it.
 fn cell_run(
     sheet: &[u8],
-    schema: &[u8],
     work: &mut [u8],
     round: Round,
     p: Progress,
-    cell: Cell,
+    cell: Cell<'_>,
     stride: u32,
     block: u32,
     first: u32,
@@ -59,7 +60,7 @@ fn cell_run(
     requires safe { Safe round (length work.old) p }
     requires sane { Sane cell × (cell_size cell ≤ stride) }
     ensures { Yields any_schema round (length work.old) p work.old 0
-        (λ S. Runs.run (env_of sheet.now S round) stride block (cell_element sheet.now schema.now cell stride) (rows_from first n)) result work.new }
+        (λ S. Runs.run (env_of sheet.now S round) stride block (cell_element sheet.now cell.entry stride) (rows_from first n)) result work.new }
 {
     match pay(round, p, run_cost(stride, n)) {
         Wrote::Refused(k, q) => Ran::Refused(k, q),
@@ -71,14 +72,14 @@ fn cell_run(
                 let at = q.top;
                 let stop = at + (stride as usize);
                 let v = read_row(sheet, (first as usize) + (i as usize));
-                match put_cell(sheet, schema, &mut work[at..stop], 0, cell, v) {
-                    Put::Stored => {
+                match put_cell(sheet, &mut work[at..stop], 0, cell, v) {
+                    Ok(()) => {
                         q.top = stop;
                     }
-                    Put::Unfit => {
+                    Err(Misfit::Unfit) => {
                         return Ran::Dropped(drop_run(work, q, base));
                     }
-                    Put::FloatText => {
+                    Err(Misfit::FloatText) => {
                         return Ran::Refused(11, q);
                     }
                 }
@@ -156,7 +157,6 @@ pub fn stop_run(
 // A run of texts, by the elements' subtype.
 fn text_run(
     sheet: &[u8],
-    schema: &[u8],
     work: &mut [u8],
     round: Round,
     p: Progress,
@@ -167,8 +167,8 @@ fn text_run(
     n: u32,
 ) -> Ran
     requires { Safe round (length work.old) p × Open p }
-    ensures { Yields any_schema round (length work.old) p work.old 1
-        (λ S. Runs.text_run (env_of sheet.now S round) (def_of schema.now d) (member_of m) (member_of x) (rows_from first n)) result work.new }
+    ensures { (F : Bytes) → Yields any_schema round (length work.old) p work.old 1
+        (λ S. Runs.text_run (env_of sheet.now S round) (def_of F d) (member_of m) (member_of x) (rows_from first n)) result work.new }
 {
     let sub = x.subtype;
     match sub {
@@ -179,7 +179,6 @@ fn text_run(
             }
             cell_run(
                 sheet,
-                schema,
                 work,
                 round,
                 p,
@@ -191,7 +190,7 @@ fn text_run(
             )
         }
         1..=3 => pointer_text_run(sheet, work, round, p, x.subtype, first, n),
-        7 | 8 => cell_run(sheet, schema, work, round, p, Cell::Hash, 4, 6, first, n),
+        7 | 8 => cell_run(sheet, work, round, p, Cell::Hash, 4, 6, first, n),
         _ => stop_run(work, round, p, d, m, 11, x.subtype as u32),
     }
 }
@@ -211,37 +210,19 @@ fn enum_run(
     ensures { Yields (λ S. schema_of schema.now ≡ ok S) round (length work.old) p work.old 0
         (λ S. Runs.enum_run (env_of sheet.now S round) h (rows_from first n)) result work.new }
 {
-    match find_enum(schema, h) {
-        Found::Nothing => cell_run(
-            sheet,
-            schema,
-            work,
-            round,
-            p,
-            Cell::Enum(0, 0, 4),
-            4,
-            5,
-            first,
-            n,
-        ),
-        Found::At(at) => {
-            let k = entry_count(schema, at) as usize;
-            let from = entries_at(schema, at);
-            let q = use_enum(work, round, p, h);
-            cell_run(
-                sheet,
-                schema,
-                work,
-                round,
-                q,
-                Cell::Enum(from, k, 4),
-                4,
-                5,
-                first,
-                n,
-            )
-        }
-    }
+    let (entries, name) = named(schema, h);
+    let q = used(work, round, p, name);
+    cell_run(
+        sheet,
+        work,
+        round,
+        q,
+        Cell::Enum(entries, 4),
+        4,
+        5,
+        first,
+        n,
+    )
 }
 
 // The name of the block of a run of integers.
@@ -286,7 +267,6 @@ pub fn plain_element_run(
     match kind_of(x.kind) {
         Kind::Integer(k) => cell_run(
             sheet,
-            schema,
             work,
             round,
             p,
@@ -296,10 +276,9 @@ pub fn plain_element_run(
             first,
             n,
         ),
-        Kind::Single => cell_run(sheet, schema, work, round, p, Cell::Single, 4, 7, first, n),
+        Kind::Single => cell_run(sheet, work, round, p, Cell::Single, 4, 7, first, n),
         Kind::Vector(k) => cell_run(
             sheet,
-            schema,
             work,
             round,
             p,
@@ -309,7 +288,7 @@ pub fn plain_element_run(
             first,
             n,
         ),
-        Kind::Text => text_run(sheet, schema, work, round, p, d, m, x, first, n),
+        Kind::Text => text_run(sheet, work, round, p, d, m, x, first, n),
         Kind::Enumeration => enum_run(sheet, schema, work, round, p, x.reference, first, n),
         Kind::Structure => Ran::Dropped(p),
         Kind::Array => stop_run(work, round, p, d, m, 12, x.kind as u32),

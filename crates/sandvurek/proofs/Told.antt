@@ -1,17 +1,17 @@
 -- The packer's and the reader's answers as the numbers that go out. Assumes nothing.
+use Rattle.std.specs.Prelude.{Option, Some, None, option_map}
+use native.Mathlib.Omega.{arith}
 use mathlib.Core.Path.{◌≡◌, refl, sym, ap, ◌∙◌}
 use mathlib.Core.List.{List}
 use Prim.Native.Nat.{ℕ}
 use Rattle.numbers.specs.Words.{Bytes}
-use Rattle.numbers.specs.Result.{Result, ok, refused}
+use Rattle.numbers.specs.Result.{Result, ok, refused, map_result}
 use Rattle.schema.specs.Sections.{sections}
 use Rattle.pso.specs.Reader as R
 use Rattle.pso.specs.Blocks.{numbered, blocks_of}
-use Rattle.pso.specs.Answers.{row_is, answered}
-use Rattle.pso.specs.declared.parse.Parsed as P
-use Rattle.pso.specs.declared.parse.Parsed.TheVariants as W
-use Rattle.pso.specs.declared.blocks.Row as B
-use Rattle.pso.specs.declared.blocks.Row.TheVariants as Y
+use Rattle.pso.specs.Answers.{row_of, answered}
+use Rattle.pso.specs.declared.parse.Pso.{Pso}
+use Rattle.pso.specs.declared.blocks.Row.{Row}
 use Rattle.layout.specs.State.{Remark}
 use Rattle.layout.specs.Build.{After}
 use Rattle.turns.specs.Answers.{answer_of, leaves}
@@ -32,30 +32,40 @@ build_told a r n out list area t e =
     }
 
 -- the numbers of the reader's answer
-abbrev shows : P.Parsed → Reading
-shows (W.Pso root place len blocks) = record { code = 0; root = root; data_at = place; data_length = len; blocks = blocks }
-shows (W.Refused n) = record { code = n; root = 0; data_at = 0; data_length = 0; blocks = 0 }
+module _ (F : Bytes) where
+  told_as : (X : Result R.Pso) (w : Pso) → ok w ≡ map_result (answered F) X → record { code = 0; root = w.root; data_at = w.place; data_length = w.len; blocks = w.blocks } ≡ reading_is F X
+  unfolding map_result
+  told_as (ok p) w e =
+      let a : w ≡ answered F p = cc in
+      rw a
+  told_as (refused n) w e = absurd (let z : ◌≡◌ {A = ℕ} 0 1 = cc in omega arith)
 
-shows_is : (F : Bytes) (X : Result R.Pso) → shows (answered F X) ≡ reading_is F X
-shows_is F (ok p) = refl
-shows_is F (refused n) = refl
+  refused_as : (X : Result R.Pso) (n : ℕ) → refused n ≡ map_result (answered F) X → record { code = n; root = 0; data_at = 0; data_length = 0; blocks = 0 } ≡ reading_is F X
+  unfolding map_result
+  refused_as (ok p) n e = absurd (let z : ◌≡◌ {A = ℕ} 0 1 = cc in omega arith)
+  refused_as (refused m) n e =
+      let a : n ≡ m = cc in
+      rw a
 
-pub reading_told : (F : Bytes) (r w : P.Parsed) → r ≡ answered F (R.parse_pso F) → r ≡ w → shows w ≡ reading_of F
-reading_told F r w a e = ap shows (sym e ∙ a) ∙ shows_is F (R.parse_pso F)
+  pub reading_told : (w : Pso) → ok w ≡ map_result (answered F) (R.parse_pso F)
+      → record { code = 0; root = w.root; data_at = w.place; data_length = w.len; blocks = w.blocks } ≡ reading_of F
+  reading_told = told_as (R.parse_pso F)
+
+  pub reading_refused : (n : ℕ) → refused n ≡ map_result (answered F) (R.parse_pso F) → record { code = n; root = 0; data_at = 0; data_length = 0; blocks = 0 } ≡ reading_of F
+  reading_refused = refused_as (R.parse_pso F)
 
 -- the numbers of a row
-abbrev row_shows : B.Row → Block
-row_shows (Y.Found name place len) = record { found = 1; name = name; place = place; length = len }
-row_shows Y.Nothing = record { found = 0; name = 0; place = 0; length = 0 }
+abbrev row_shows : Option Row → Block
+row_shows (Some r) = record { found = 1; name = r.name; place = r.place; length = r.len }
+row_shows None = record { found = 0; name = 0; place = 0; length = 0 }
 
-row_is_law : (r : B.Row) → row_shows r ≡ block_is (row_is r)
-row_is_law (Y.Found name place len) = refl
-row_is_law Y.Nothing = refl
+row_is_law : (o : Option R.Block) → row_shows (option_map row_of o) ≡ block_is o
+row_is_law (Some b) = refl
+row_is_law None = refl
 
 -- of any file, and of one that the reader accepts
-pub block_told : (F : Bytes) (n : ℕ) (r w : B.Row) → row_is r ≡ numbered (blocks_of (sections F)) n
-    → ((p : R.Pso) → R.parse_pso F ≡ ok p → numbered p.blocks n ≡ row_is r) → r ≡ w
-    → (row_shows w ≡ block_of F n) × ((p : R.Pso) → R.parse_pso F ≡ ok p → row_shows w ≡ block_is (numbered p.blocks n))
-block_told F n r w a b e =
-    let k : row_shows w ≡ block_is (row_is r) = ap row_shows (sym e) ∙ row_is_law r in
-    (k ∙ ap block_is a, λ p q. k ∙ ap block_is (sym (b p q)))
+pub block_told : (F : Bytes) (n : ℕ) (r : Option Row) → r ≡ option_map row_of (numbered (blocks_of (sections F)) n)
+    → ((p : R.Pso) → R.parse_pso F ≡ ok p → r ≡ option_map row_of (numbered p.blocks n))
+    → record { value : row_shows r ≡ block_of F n; value_2 : (p : R.Pso) → R.parse_pso F ≡ ok p → row_shows r ≡ block_is (numbered p.blocks n) }
+block_told F n r a b =
+    record { value = ap row_shows a ∙ row_is_law (numbered (blocks_of (sections F)) n); value_2 = λ p q. ap row_shows (b p q) ∙ row_is_law (numbered p.blocks n) }

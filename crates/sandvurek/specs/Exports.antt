@@ -1,6 +1,5 @@
 -- What each exported function answers.
-use Rattle.std.specs.Prelude.{ℕ, ◌+◌, ◌*◌, ◌≡◌, List, length}
-use Rattle.std.proofs.Math.Option.{Option, none, some}
+use Rattle.std.specs.Prelude.{ℕ, ◌+◌, ◌*◌, ◌≡◌, List, length, Option, Some, None}
 use Rattle.numbers.specs.Words.{Bytes}
 use Rattle.numbers.specs.Result.{Result, ok, refused, nth}
 use Rattle.schema.specs.Sections.{sections}
@@ -11,9 +10,9 @@ use Rattle.definitions.specs.Answers.{entry_here}
 use Rattle.definitions.specs.declared.members.Entry as S
 use Rattle.pso.specs.Reader as R
 use Rattle.pso.specs.Blocks.{numbered, blocks_of}
-use Rattle.pso.specs.Answers.{data_at, structure_at, enumeration_at}
+use Rattle.schema.specs.declared.kind.Kind.TheVariants.{Structure, Enum}
+use Rattle.pso.specs.Answers.{data_at, definition_at}
 use Rattle.pso.specs.declared.lookup.Definition as P
-use Rattle.pso.specs.declared.lookup.Definition.TheVariants.{Found, Nothing}
 use Rattle.layout.specs.State.{Remark}
 use Rattle.layout.specs.Build.{Answer, success, refusal, After}
 use Rattle.sandvurek.specs.declared.Outcome.{Outcome}
@@ -50,25 +49,25 @@ reading_of F = reading_is F (R.parse_pso F)
 
 -- "name, place in PSIN, .. length", where there is a block
 abbrev pub block_is : Option R.Block → Block
-block_is (some b) = record { found = 1; name = b.name; place = b.place; length = b.length' }
-block_is none = record { found = 0; name = 0; place = 0; length = 0 }
+block_is (Some b) = record { found = 1; name = b.name; place = b.place; length = b.length' }
+block_is None = record { found = 0; name = 0; place = 0; length = 0 }
 
 -- the block of a number, from 1
 abbrev pub block_of : Bytes → ℕ → Block
 block_of F number = block_is (numbered (blocks_of (sections F)) number)
 
 -- a definition's numbers and its place in the file, where there is one
-abbrev pub definition_is : P.Definition → Definition
-definition_is (Found unknown size count at) = record { found = 1; unknown = unknown; size = size; count = count; at = at }
-definition_is Nothing = record { found = 0; unknown = 0; size = 0; count = 0; at = 0 }
+abbrev pub definition_is : Option P.Definition → Definition
+definition_is (Some d) = record { found = 1; unknown = d.unknown; size = d.size; count = d.count; at = d.at }
+definition_is None = record { found = 0; unknown = 0; size = 0; count = 0; at = 0 }
 
 -- the structure of a name: the first counts
 abbrev pub structure_of : Bytes → ℕ → Definition
-structure_of F name = definition_is (structure_at F (first_place F 0 name))
+structure_of F name = definition_is (definition_at F Structure (first_place F 0 name))
 
 -- the enum of a name: the first counts
 abbrev pub enum_of : Bytes → ℕ → Definition
-enum_of F name = definition_is (enumeration_at F (first_place F 1 name))
+enum_of F name = definition_is (definition_at F Enum (first_place F 1 name))
 
 -- "per member name, type byte, subtype byte, 2-byte offset, reference"
 abbrev pub member_is : D.Member → Member
@@ -92,20 +91,20 @@ pub record IsStruct (F : Bytes) (r : Definition) (d : D.StructDef) : Type 0 wher
   pub unknown : r.unknown ≡ d.unknown
   pub size : r.size ≡ d.size
   pub count : r.count ≡ length d.members
-  pub members : (k : ℕ) (m : D.Member) → nth d.members k ≡ some m → member_of F r.at k ≡ member_is m
+  pub members : (k : ℕ) (m : D.Member) → nth d.members k ≡ Some m → member_of F r.at k ≡ member_is m
 
 -- .. the enum d, with its entries
 pub record IsEnum (F : Bytes) (r : Definition) (d : D.EnumDef) : Type 0 where
   pub found : r.found ≡ 1
   pub count : r.count ≡ length d.entries
-  pub entries : (k : ℕ) (e : ℕ × ℕ) → nth d.entries k ≡ some e → entry_of F r.at k ≡ record { name = e.0; value = e.1 }
+  pub entries : (k : ℕ) (e : ℕ × ℕ) → nth d.entries k ≡ Some e → entry_of F r.at k ≡ record { name = e.0; value = e.1 }
 
 -- .. what a name stands for, or none
 abbrev pub StructIs : Bytes → Definition → Option D.StructDef → Type 0
-StructIs F r (some d) = IsStruct F r d
-StructIs F r none = r.found ≡ 0
+StructIs F r (Some d) = IsStruct F r d
+StructIs F r None = r.found ≡ 0
 
 -- .. of enums
 abbrev pub EnumIs : Bytes → Definition → Option D.EnumDef → Type 0
-EnumIs F r (some d) = IsEnum F r d
-EnumIs F r none = r.found ≡ 0
+EnumIs F r (Some d) = IsEnum F r d
+EnumIs F r None = r.found ≡ 0

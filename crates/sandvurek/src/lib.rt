@@ -12,10 +12,11 @@ ghost use Rattle.sandvurek.specs.Exports.{outcome_is, BuildIs, reading_of, block
 
 use definitions::members::{read_entry, read_member};
 use layout::Remark;
-use pso::blocks::{Row, block};
-use pso::lookup::{Definition as Found, enumeration, structure};
-use pso::parse::{Parsed, parse_pso};
+use pso::blocks::block;
+use pso::lookup::{Definition as Found, find_definition};
+use pso::parse::parse_pso;
 use pso_write::build_pso;
+use schema::kind::Kind;
 use turns::Built;
 
 // What building gives: code 0, the file's length and the number of remarks; or the refusal's number, and zeros.
@@ -78,22 +79,16 @@ pub struct Reading {
 pub extern "C" fn sandvurek_read(file: &[u8]) -> Reading
     ensures { result ≡ reading_of file.now }
 {
-    let p = parse_pso(file);
-    match p {
-        Parsed::Pso {
-            root,
-            place,
-            len,
-            blocks,
-        } => Reading {
+    match parse_pso(file) {
+        Ok(pso) => Reading {
             code: 0,
-            root: root,
-            data_at: place,
-            data_length: len,
-            blocks: blocks,
+            root: pso.root,
+            data_at: pso.place,
+            data_length: pso.len,
+            blocks: pso.blocks,
         },
-        Parsed::Refused(n) => Reading {
-            code: n,
+        Err(refusal) => Reading {
+            code: u32::from(refusal),
             root: 0,
             data_at: 0,
             data_length: 0,
@@ -118,15 +113,14 @@ pub extern "C" fn sandvurek_block(file: &[u8], number: usize) -> Block
     ensures value { result ≡ block_of file.now number }
     ensures value_2 { (p : Pso) → parse_pso file.now ≡ ok p → result ≡ block_is (numbered p.blocks number) }
 {
-    let b = block(file, number);
-    match b {
-        Row::Found { name, place, len } => Block {
+    match block(file, number) {
+        Some(row) => Block {
             found: 1,
-            name: name,
-            place: place,
-            length: len,
+            name: row.name,
+            place: row.place,
+            length: row.len,
         },
-        Row::Nothing => Block {
+        None => Block {
             found: 0,
             name: 0,
             place: 0,
@@ -148,23 +142,18 @@ pub struct Definition {
 }
 
 // The answer of a look-up as numbers.
-fn numbers_of(d: Found) -> Definition
-    ensures { result ≡ definition_is d }
+fn numbers_of(found: Option<Found>) -> Definition
+    ensures { result ≡ definition_is found }
 {
-    match d {
-        Found::Found {
-            unknown,
-            size,
-            count,
-            at,
-        } => Definition {
+    match found {
+        Some(d) => Definition {
             found: 1,
-            unknown: unknown as u32,
-            size: size,
-            count: count,
-            at: at,
+            unknown: d.unknown as u32,
+            size: d.size,
+            count: d.count,
+            at: d.at,
         },
-        Found::Nothing => Definition {
+        None => Definition {
             found: 0,
             unknown: 0,
             size: 0,
@@ -180,7 +169,7 @@ pub extern "C" fn sandvurek_structure(file: &[u8], name: u32) -> Definition
     ensures value { result ≡ structure_of file.now name }
     ensures struct_is { (p : Pso) → parse_pso file.now ≡ ok p → StructIs file.now result ((leading p.schema).struct name) }
 {
-    numbers_of(structure(file, name))
+    numbers_of(find_definition(file, Kind::Structure, name))
 }
 
 // The enum of a name; the first counts.
@@ -189,7 +178,7 @@ pub extern "C" fn sandvurek_enum(file: &[u8], name: u32) -> Definition
     ensures value { result ≡ enum_of file.now name }
     ensures enum_is { (p : Pso) → parse_pso file.now ≡ ok p → EnumIs file.now result ((leading p.schema).enum name) }
 {
-    numbers_of(enumeration(file, name))
+    numbers_of(find_definition(file, Kind::Enum, name))
 }
 
 // A member of a structure.

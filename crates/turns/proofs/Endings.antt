@@ -19,7 +19,6 @@ use Rattle.turns.specs.declared.Built.{Built}
 use Rattle.turns.specs.declared.Built.TheVariants.{File, Refused}
 use Rattle.rounds.specs.declared.Job.{Job}
 use Rattle.rounds.specs.declared.Stage.{Stage}
-use Rattle.rounds.specs.declared.opening.Opening.TheVariants as O
 use Rattle.turns.specs.Answers.{answer_of, leaves}
 use Rattle.assemble.specs.Map.{places_of}
 use Rattle.assemble.specs.Packed.{Fitting, SomeFitting, table_at, InUse}
@@ -43,7 +42,7 @@ over_front out b = let e : 0 + length b ≡ length b = omega arith in ap (λ (k 
 
 module _ (T F : Bytes) (size room : ℕ) where
   -- a refusal before the layout
-  pub begin_refused : (w w' : Bytes) (k : ℕ) → w' ≡ over w 0 (zeros (length w)) → Opens T F (length w) (O.Refused k) → (j : Job) → j ≡ no_job → (r : Stage) → r ≡ refusal_of j k
+  pub begin_refused : (w w' : Bytes) (k : ℕ) → w' ≡ over w 0 (zeros (length w)) → Opens T F (length w) (refused k) → (j : Job) → j ≡ no_job → (r : Stage) → r ≡ refusal_of j k
       → Begins T F size room r w'
   begin_refused w w' k e o j f r q zs len =
       let z : w' ≡ zeros (length w) = e ∙ cleared w in
@@ -53,7 +52,7 @@ module _ (T F : Bytes) (size room : ℕ) where
       (record { none = λ _. z ∙ ap zeros (sym l); some = λ n. absurd (n refl) }))
 
   -- the first round can run in the cleared area
-  pub begin_ready : (w w' : Bytes) (R : Round) (place name : ℕ) → w' ≡ over w 0 (zeros (length w)) → Opens T F (length w) (O.Go R place name)
+  pub begin_ready : (w w' : Bytes) (R : Round) (place name : ℕ) → w' ≡ over w 0 (zeros (length w)) → Opens T F (length w) (ok (record { round = R; place = place; name = name }))
       → Roomy R (length w') × (w' ≡ zeros (length w')) × Rooted F R place name
   begin_ready w w' R place name e o =
       let z : w' ≡ zeros (length w) = e ∙ cleared w in
@@ -61,7 +60,7 @@ module _ (T F : Bytes) (size room : ℕ) where
       (subst (Roomy R) (sym l) o.1.0, z ∙ ap zeros (sym l), o.0)
 
   -- the first round
-  pub begin_round : (w : Bytes) (n : ℕ) (R : Round) (place name : ℕ) → length w ≡ n → Opens T F n (O.Go R place name) → (r : Stage) → Takes T F size room R place name 0 r w
+  pub begin_round : (w : Bytes) (n : ℕ) (R : Round) (place name : ℕ) → length w ≡ n → Opens T F n (ok (record { round = R; place = place; name = name })) → (r : Stage) → Takes T F size room R place name 0 r w
       → Begins T F size room r w
   unfolding thin
   begin_round w n R place name l o r takes zs len =

@@ -11,7 +11,7 @@ use layout::Remark;
 use numbers::words::clear;
 use rounds::Stage;
 use rounds::merge::{judged, no_job, refusal, seek, take_round};
-use rounds::opening::{Opening, opened};
+use rounds::opening::opened;
 
 // The length of the file and the number of remarks; or a refusal's number.
 #[derive(Clone, Copy)]
@@ -34,10 +34,8 @@ pub fn first(sheet: &[u8], schema: &[u8], work: &mut [u8], size: usize, room: us
     let n = work.len();
     clear(work, 0, n);
     match opened(sheet, schema, n) {
-        Opening::Refused(k) => refusal(no_job(), k),
-        Opening::Go(round, place, name) => take_round(
-            sheet, schema, work, size, room, round, place, name, 0,
-        ),
+        Err(e) => refusal(no_job(), u32::from(e)),
+        Ok(o) => take_round(sheet, schema, work, size, room, o.round, o.place, o.name, 0),
     }
 }
 

@@ -1,34 +1,54 @@
--- The loops of the comparisons: bytes that are all the same, records that are as they must be. Assumes nothing.
+-- The comparisons: bytes that are all the same, records that are as they must be. Assumes nothing.
 use mathlib.Core.Path.{◌≡◌, refl, sym, ap, subst, ◌∙◌}
-use mathlib.Core.Bool.{Bool, true, false, ◌&&◌}
-use mathlib.Core.List.{List}
-use Prim.Native.Nat.{ℕ, zero, suc, ◌+◌, ◌≤◌, ◌<◌}
+use mathlib.Core.Bool.{Bool, true, false, not, ◌&&◌}
+use mathlib.Core.List.{List, [], ◌∷◌}
+use Prim.Native.Nat.{ℕ, zero, suc, ◌+◌, ◌<◌}
 use native.Mathlib.Numerals.{add-one}
 use native.Mathlib.Omega.{arith}
 use lib.Dec.{eqb}
-use lib.ListN.{length, get_or, drop, drop_of_length-le}
-use lib.Seq.{drop-cons}
+use lib.ListN.{length, get_or}
 use borrow.Author.Tests.{eq-eqb, ne_eqb, eqb-true, eqb-false}
 use Rattle.numbers.specs.Words.{Bytes}
 use Rattle.layout.specs.State.{Remark, same_remark}
 use Rattle.layout.specs.Build.{zero_remark}
 use Rattle.vectors.specs.Judge.{all_are, wanted_at, records_are}
 
--- a loop that has passed i bytes
-module _ (b : ℕ) (s : Bytes) (i : ℕ) where
-  heads : i < length s → all_are b (drop i s) ≡ eqb (get_or s i 0) b && all_are b (drop (i + 1) s)
-  unfolding all_are
-  heads h = rw (drop-cons s i 0 h, add-one)
+-- all bytes are b, or one is not
+all_yes : (b : ℕ) (s : Bytes) → ((k : ℕ) → k < length s → get_or s k 0 ≡ b) → true ≡ all_are b s
+unfolding all_are
+all_yes b [] every = refl
+all_yes b (x ∷ l) every = rw (eq-eqb x b (every 0 (omega arith))) (all_yes b l (λ k h. every (suc k) (omega (arith, h))))
 
-  pub all_turn : i < length s → get_or s i 0 ≡ b → all_are b (drop (i + 1) s) ≡ all_are b (drop i s)
-  all_turn h e = sym (heads h ∙ rw (eq-eqb (get_or s i 0) b e))
+all_no : (b : ℕ) (s : Bytes) (k : ℕ) → k < length s → (get_or s k 0 ≡ b → ⊥) → false ≡ all_are b s
+unfolding all_are
+all_no b [] k h n = absurd (omega (arith, h))
+all_no b (x ∷ l) zero h n = rw (ne_eqb x b n) refl
+all_no b (x ∷ l) (suc k) h n = and_right (eqb x b) (all_no b l k (omega (arith, h)) n)
+  where
+    and_right : (t : Bool) {u : Bool} → false ≡ u → false ≡ t && u
+    and_right true e = e
+    and_right false e = refl
 
-  pub all_differ : i < length s → (get_or s i 0 ≡ b → ⊥) → false ≡ all_are b (drop i s)
-  all_differ h n = sym (heads h ∙ rw (ne_eqb (get_or s i 0) b n))
+-- whether all bytes are b, from what stands at each place
+pub all_is : (b : ℕ) (s : Bytes) (r : Bool) → (r ≡ true → (k : ℕ) → k < length s → get_or s k 0 ≡ b) → (r ≡ false → (k : ℕ) × (k < length s) × (get_or s k 0 ≡ b → ⊥))
+    → r ≡ all_are b s
+all_is b s true y n = all_yes b s (y refl)
+all_is b s false y n = let p = n refl in all_no b s p.0 p.1 p.2
 
-  pub all_done : length s ≤ i → true ≡ all_are b (drop i s)
-  unfolding all_are
-  all_done h = rw (drop_of_length-le s h)
+-- what `!=` says of records
+not_not : (t : Bool) → t ≡ not (not t)
+not_not true = refl
+not_not false = refl
+
+all_four : (a b c d : Bool) → ((a && b) && c) && d ≡ a && (b && (c && d))
+all_four true true c d = refl
+all_four true false c d = refl
+all_four false b c d = refl
+
+pub same_by : (q r : Remark) (t : Bool) → t ≡ not (eqb q.kind r.kind && (eqb q.structure r.structure && (eqb q.member r.member && eqb q.detail r.detail))) → same_remark q r ≡ not t
+same_by q r t e =
+    all_four (eqb q.kind r.kind) (eqb q.structure r.structure) (eqb q.member r.member) (eqb q.detail r.detail)
+    ∙ not_not (eqb q.kind r.kind && (eqb q.structure r.structure && (eqb q.member r.member && eqb q.detail r.detail))) ∙ ap not (sym e)
 
 -- a loop that has passed i records
 module _ (s : Bytes) (count n : ℕ) (l : List Remark) where

@@ -1,23 +1,14 @@
 // What is compared with the recorded answer: numbers, bytes, records, and what was lent and must be as it was, or zero.
-ghost use Rattle.std.specs.Prelude.{◌≡◌, ◌<◌, length, drop, replicate};
+ghost use Rattle.std.specs.Prelude.{◌≡◌, ◌<◌, replicate};
 ghost use Rattle.vectors.specs.Judge.{record_of, noise, all_are, wanted_at, records_are, agrees_with, reads_as};
 
-use area::notes::{row_at, same as same_remark};
+use area::notes::row_at;
 use layout::Remark;
-use numbers::words::{part_from, part_to, read_u32, same};
+use numbers::words::{part_from, part_to, read, same};
+use pso::parse::Pso;
 
 // The byte that fills every area before a case.
-const NOISE: u8 = 165;
-
-pub fn fill(s: &mut [u8])
-    ensures { s.new ≡ replicate (length s.old) 165 }
-{
-    let mut i = 0;
-    while i < s.len() {
-        s[i] = NOISE;
-        i += 1;
-    }
-}
+pub const NOISE: u8 = 165;
 
 fn record(n: u32) -> Remark
     ensures { result ≡ record_of n }
@@ -37,18 +28,11 @@ pub fn noises() -> [Remark; 64]
     [r; 64]
 }
 
-// Whether all bytes from `at` on are b.
-fn all_are(s: &[u8], at: usize, b: u8) -> bool
-    ensures { result ≡ all_are b (drop at s.now) }
+// Whether all bytes are b.
+fn all_are(s: &[u8], b: u8) -> bool
+    ensures { result ≡ all_are b s.now }
 {
-    let mut i = at;
-    while i < s.len() {
-        if s[i] != b {
-            return false;
-        }
-        i += 1;
-    }
-    true
+    s.iter().all(|x| *x == b)
 }
 
 // Record i as it must be: a remark, then zeros, then noise behind the records that were lent.
@@ -67,12 +51,10 @@ fn wanted(s: &[u8], count: usize, n: usize, i: usize) -> Remark
 fn records(s: &[u8], count: usize, n: usize, list: [Remark; 64]) -> bool
     ensures { result ≡ records_are s.now count n list 64 }
 {
-    let mut i: usize = 0;
-    while i < 64 {
-        if !same_remark(list[i], wanted(s, count, n, i)) {
+    for (i, r) in list.iter().enumerate() {
+        if *r != wanted(s, count, n, i) {
             return false;
         }
-        i += 1;
     }
     true
 }
@@ -90,19 +72,22 @@ pub fn agrees(
 ) -> bool
     ensures { result ≡ agrees_with row.now work.now out.now n code len count list }
 {
-    let at = 40 + (read_u32(row, 8) as usize) + (read_u32(row, 12) as usize);
-    let size = read_u32(row, 32) as usize;
-    let c = (code == read_u32(row, 28)) & (len == size) & (count == read_u32(row, 36) as usize);
+    let at = 40 + (read::<u32>(row, 8) as usize) + (read::<u32>(row, 12) as usize);
+    let size = read::<u32>(row, 32) as usize;
+    let c = (code == read::<u32>(row, 28))
+        & (len == size)
+        & (count == read::<u32>(row, 36) as usize);
     let f = same(part_to(out, len), part_to(part_from(row, at), size));
-    let a = all_are(out, len, NOISE) & all_are(work, 0, 0);
+    let a = all_are(part_from(out, len), NOISE) & all_are(work, 0);
     c & f & a & records(part_from(row, at + size), count, n, list)
 }
 
 // Whether a file has the recorded reading.
-pub fn is_reading(row: &[u8], code: u32, root: u32, place: usize, len: usize, blocks: usize) -> bool
-    ensures { result ≡ reads_as row.now code root place len blocks }
+pub fn is_reading(row: &[u8], code: u32, pso: Pso) -> bool
+    ensures { result ≡ reads_as row.now code pso.root pso.place pso.len pso.blocks }
 {
-    let a = (code == read_u32(row, 12)) & (root == read_u32(row, 16));
-    let b = (place == read_u32(row, 20) as usize) & (len == read_u32(row, 24) as usize);
-    a & b & (blocks == read_u32(row, 28) as usize)
+    let a = (code == read::<u32>(row, 12)) & (pso.root == read::<u32>(row, 16));
+    let b = (pso.place == read::<u32>(row, 20) as usize)
+        & (pso.len == read::<u32>(row, 24) as usize);
+    a & b & (pso.blocks == read::<u32>(row, 28) as usize)
 }

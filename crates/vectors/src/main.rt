@@ -8,11 +8,12 @@ ghost use Rattle.std.specs.Prelude.{◌≡◌, ◌≤◌, ◌<◌, length, take}
 ghost use Rattle.layout.specs.Build.{build_pso};
 ghost use Rattle.turns.specs.Answers.{leaves};
 
-use judge::{agrees, fill, is_reading};
+use judge::{NOISE, agrees, is_reading};
 use layout::Remark;
-use numbers::words::{part_from, part_to, read_u32};
-use pso::parse::{Parsed, parse_pso};
+use numbers::words::{part_from, part_to, read};
+use pso::parse::{Pso, parse_pso};
 use pso_write::build_pso;
+use std::alloc::Global;
 use std::io;
 use std::io::Read;
 use turns::Built;
@@ -74,20 +75,12 @@ fn built_line(rt: &impl Print, code: u32, len: usize, count: usize, same: bool) 
 }
 
 // The line of a file that was read.
-fn read_line(
-    rt: &impl Print,
-    code: u32,
-    root: u32,
-    place: usize,
-    len: usize,
-    blocks: usize,
-    same: bool,
-) -> io::Result<()> {
+fn read_line(rt: &impl Print, code: u32, pso: Pso, same: bool) -> io::Result<()> {
     say(rt, ": code ", code as u64)?;
-    say(rt, ", root ", root as u64)?;
-    say(rt, ", ", len as u64)?;
-    say(rt, " bytes at ", place as u64)?;
-    say(rt, ", ", blocks as u64)?;
+    say(rt, ", root ", pso.root as u64)?;
+    say(rt, ", ", pso.len as u64)?;
+    say(rt, " bytes at ", pso.place as u64)?;
+    say(rt, ", ", pso.blocks as u64)?;
     print!(rt; " blocks")?;
     end(rt, same)
 }
@@ -115,131 +108,84 @@ fn answer(
 
 // A case for the packer. All areas are full of noise before.
 fn build_case(rt: &impl Print, row: &[u8], work: &mut [u8], out: &mut [u8]) -> io::Result<()> {
-    let a = read_u32(row, 8) as usize;
-    let b = read_u32(row, 12) as usize;
-    let n = read_u32(row, 24) as usize;
+    let a = read::<u32>(row, 8) as usize;
+    let b = read::<u32>(row, 12) as usize;
+    let n = read::<u32>(row, 24) as usize;
     if 64 < n {
         return Ok(());
     }
     let sheet = part_to(part_from(row, 40), a);
     let schema = part_to(part_from(row, 40 + a), b);
-    fill(work);
-    fill(out);
+    work.fill(NOISE);
+    out.fill(NOISE);
     let k = pack(sheet, schema, work, out, n, judge::noises());
     let built = k.built;
     let list = k.list;
     answer(rt, row, work, out, n, built, list)
 }
 
-// A case for the reader.
+// A case for the reader; of what is refused all numbers but the code are 0.
 fn read_case(rt: &impl Print, row: &[u8]) -> io::Result<()> {
-    let file = part_to(part_from(row, 40), read_u32(row, 8) as usize);
+    let file = part_to(part_from(row, 40), read::<u32>(row, 8) as usize);
     match parse_pso(file) {
-        Parsed::Pso {
-            root,
-            place,
-            len,
-            blocks,
-        } => {
-            let same = is_reading(row, 0, root, place, len, blocks);
-            read_line(rt, 0, root, place, len, blocks, same)
-        }
-        Parsed::Refused(code) => {
-            let same = is_reading(row, code, 0, 0, 0, 0);
-            read_line(rt, code, 0, 0, 0, 0, same)
+        Ok(pso) => read_line(rt, 0, pso, is_reading(row, 0, pso)),
+        Err(refusal) => {
+            let code = u32::from(refusal);
+            let pso = Pso {
+                root: 0,
+                place: 0,
+                len: 0,
+                blocks: 0,
+            };
+            read_line(rt, code, pso, is_reading(row, code, pso))
         }
     }
-}
-
-fn within(
-    rt: &impl Print,
-    row: &[u8],
-    work: &mut [u8],
-    w: usize,
-    out: &mut [u8],
-    o: usize,
-) -> io::Result<()>
-    requires w_in_bounds { w ≤ length work.old }
-    requires o_in_bounds { o ≤ length out.old }
-{
-    build_case(rt, row, &mut work[..w], &mut out[..o])
 }
 
 // One case; no answer where it has no room here.
 fn one(
     rt: &impl Print,
-    number: u64,
+    number: usize,
     row: &[u8],
     work: &mut [u8],
     out: &mut [u8],
 ) -> io::Result<()> {
-    say(rt, "case ", number)?;
-    if read_u32(row, 4) == 1 {
+    say(rt, "case ", number as u64)?;
+    if read::<u32>(row, 4) == 1 {
         return read_case(rt, row);
     }
-    let w = read_u32(row, 16) as usize;
-    let o = read_u32(row, 20) as usize;
-    if work.len() < w {
+    let w = read::<u32>(row, 16) as usize;
+    let o = read::<u32>(row, 20) as usize;
+    if work.len() < w || out.len() < o {
         return Ok(());
     }
-    if out.len() < o {
-        return Ok(());
-    }
-    within(rt, row, work, w, out, o)
+    build_case(rt, row, &mut work[..w], &mut out[..o])
 }
 
-fn cases(rt: &impl Print, all: &[u8], work: &mut [u8], out: &mut [u8]) -> io::Result<()> {
-    let mut at: usize = 0;
-    let mut number: u64 = 0;
-    while at < all.len() {
-        let len = read_u32(all, at) as usize;
+// The rows of the cases, each behind the other, up to one that is too short.
+fn rows_of(alloc: Global, all: &[u8]) -> io::Result<Vec<&[u8]>> {
+    let mut rows = Vec::new(alloc);
+    let mut rest = all;
+    while !rest.is_empty() {
+        let len = read::<u32>(rest, 0) as usize;
         if len < 40 {
-            return Ok(());
+            break;
         }
-        one(rt, number, part_to(part_from(all, at), len), work, out)?;
-        number += 1;
-        at += len;
+        rows.push(part_to(rest, len))?;
+        rest = part_from(rest, len);
+    }
+    Ok(rows)
+}
+
+// The work area has 4 MB, for refusal 10.
+fn main(rt: HostRuntime) -> io::Result<()> {
+    let mut all = Vec::new(rt.alloc());
+    rt.reader().read_to_end(&mut all)?;
+    let rows = rows_of(rt.alloc(), &all)?;
+    let mut work = vec![in rt.alloc(); 0u8; 4325376]?;
+    let mut out = vec![in rt.alloc(); 0u8; 2048]?;
+    for (number, row) in rows.iter().enumerate() {
+        one(&rt, number, row, &mut work, &mut out)?;
     }
     Ok(())
-}
-
-// Reads until the slice is full or the input ends; how many bytes there were.
-fn read_slice(rt: &impl Input, all: &mut [u8]) -> io::Result<usize> {
-    let mut reader = rt.reader();
-    let mut n = 0;
-    while n < all.len() {
-        let more = reader.read(&mut all[n..])?;
-        if more == 0 {
-            return Ok(n);
-        }
-        n += more;
-    }
-    Ok(n)
-}
-
-fn read_all(rt: &impl Input, all: &mut [u8; 327680]) -> io::Result<usize> {
-    read_slice(rt, all)
-}
-
-fn of(rt: &impl Print, all: &[u8], n: usize, work: &mut [u8], out: &mut [u8]) -> io::Result<()> {
-    cases(rt, part_to(all, n), work, out)
-}
-
-// The areas of `main`, as slices: a work area of 4 MB for refusal 10.
-fn replay(
-    rt: &impl Print,
-    all: &[u8; 327680],
-    n: usize,
-    work: &mut [u8; 4325376],
-    out: &mut [u8; 2048],
-) -> io::Result<()> {
-    of(rt, all, n, work, out)
-}
-
-fn main(rt: HostRuntime) -> io::Result<()> {
-    let mut all = [0u8; 327680];
-    let mut work = [0u8; 4325376];
-    let mut out = [0u8; 2048];
-    let n = read_all(&rt, &mut all)?;
-    replay(&rt, &all, n, &mut work, &mut out)
 }

@@ -1,12 +1,11 @@
 -- What a member's writer has done: it wrote a run and did something with it. Assumes nothing.
+use Rattle.std.specs.Prelude.{Option, Some, None, option_map}
 use mathlib.Core.Path.{◌≡◌, subst, ◌∙◌}
 use mathlib.Core.List.{◌++◌, append-nil}
-use mathlib.Core.Option.{Option, none, some}
 use Prim.Native.Nat.{ℕ, ◌+◌, ◌-◌, ◌≤◌}
 use native.Mathlib.Omega.{arith}
 use lib.ListN.{length, length-append}
 use Rattle.numbers.specs.Words.{Bytes, over}
-use Rattle.numbers.specs.Result.{map_option}
 use Rattle.schema.specs.Defs.{Schema}
 use Rattle.definitions.specs.declared.members.Member as coded
 use Rattle.layout.specs.State.{State, M, ret, bind, opt_m, add_item}
@@ -51,7 +50,7 @@ module _ (known : Schema → Type 0) (R : Round) (n : ℕ) (p : Progress) (w : B
   run_refused e t i = record {
     grew = yielded.grew;
     says = λ S j s σ buf l rep.
-        meets_refused S R n (λ o. (σ ++ buf) ++ run_bytes o) (λ o x. map_option (λ z. z.block) o ≡ x) (λ b. σ ++ b) (λ b x. length b ≡ size) (f S) (λ o. opt_m o (ret buf) (k S buf)) s e t w'
+        meets_refused S R n (λ o. (σ ++ buf) ++ run_bytes o) (λ o x. option_map (λ z. z.block) o ≡ x) (λ b. σ ++ b) (λ b x. length b ≡ size) (f S) (λ o. opt_m o (ret buf) (k S buf)) s e t w'
         (yielded.says S j s (σ ++ buf) rep);
   }
     where
@@ -64,17 +63,17 @@ module _ (known : Schema → Type 0) (R : Round) (n : ℕ) (p : Progress) (w : B
   run_dropped t i few = record {
     grew = (yielded.grew.0, record { more = yielded.grew.1.more; paid = yielded.grew.1.paid; top = yielded.grew.1.top; met = omega (arith, yielded.grew.1.met) });
     says = λ S j s σ buf l rep.
-        meets_given S R n (λ o. (σ ++ buf) ++ run_bytes o) (λ o x. map_option (λ z. z.block) o ≡ x) (λ b. σ ++ b) (λ b x. length b ≡ size) (f S) (λ o. opt_m o (ret buf) (k S buf)) s none t w' (wrote_is (Done t)) w'
+        meets_given S R n (λ o. (σ ++ buf) ++ run_bytes o) (λ o x. option_map (λ z. z.block) o ≡ x) (λ b. σ ++ b) (λ b x. length b ≡ size) (f S) (λ o. opt_m o (ret buf) (k S buf)) s None t w' (wrote_is (Done t)) w'
         (yielded.says S j s (σ ++ buf) rep) (λ o s' rep' g. left S σ buf l o s' rep' g);
   }
     where
       yielded : Yields known R n p w notes f (Rn.Dropped t) w'
       yielded = subst (λ (x : Ran). Yields known R n p w notes f x w') i yields
 
-      left : (S : Schema) (σ buf : Bytes) → length buf ≡ size → (o : Option Run) (s : State) → Rep S R n s ((σ ++ buf) ++ run_bytes o) t w' → map_option (λ z. z.block) o ≡ none
+      left : (S : Schema) (σ buf : Bytes) → length buf ≡ size → (o : Option Run) (s : State) → Rep S R n s ((σ ++ buf) ++ run_bytes o) t w' → option_map (λ z. z.block) o ≡ None
           → Meets S R n (λ b. σ ++ b) (λ b x. length b ≡ size) (opt_m o (ret buf) (k S buf) s) (wrote_is (Done t)) w'
-      left S σ buf l none s rep g = (rw (← (append-nil (σ ++ buf))) rep, l)
-      left S σ buf l (some z) s rep g = let y : ◌≡◌ {A = ℕ} 0 1 = cc in absurd (omega arith)
+      left S σ buf l None s rep g = (rw (← (append-nil (σ ++ buf))) rep, l)
+      left S σ buf l (Some z) s rep g = let y : ◌≡◌ {A = ℕ} 0 1 = cc in absurd (omega arith)
 
   -- it is there, and u does with it what k does
   pub run_kept : (block : ℕ) (t : Progress) (u : Wrote) (w'' : Bytes) → r ≡ Rn.Kept block t → Went R n p 1 u
@@ -85,7 +84,7 @@ module _ (known : Schema → Type 0) (R : Round) (n : ℕ) (p : Progress) (w : B
   run_kept block t u w'' i went go = record {
     grew = went;
     says = λ S j s σ buf l rep.
-        meets_given S R n (λ o. (σ ++ buf) ++ run_bytes o) (λ o x. map_option (λ z. z.block) o ≡ x) (λ b. σ ++ b) (λ b x. length b ≡ size) (f S) (λ o. opt_m o (ret buf) (k S buf)) s (some block) t w' (wrote_is u) w''
+        meets_given S R n (λ o. (σ ++ buf) ++ run_bytes o) (λ o x. option_map (λ z. z.block) o ≡ x) (λ b. σ ++ b) (λ b x. length b ≡ size) (f S) (λ o. opt_m o (ret buf) (k S buf)) s (Some block) t w' (wrote_is u) w''
         (yielded.says S j s (σ ++ buf) rep) (λ o s' rep' g. kept S j σ buf l rep.top o s' rep' g);
   }
     where
@@ -93,9 +92,9 @@ module _ (known : Schema → Type 0) (R : Round) (n : ℕ) (p : Progress) (w : B
       yielded = subst (λ (x : Ran). Yields known R n p w notes f x w') i yields
 
       kept : (S : Schema) → known S → (σ buf : Bytes) → length buf ≡ size → p.top ≡ stack_at R + length (σ ++ buf) → (o : Option Run) (s : State) → Rep S R n s ((σ ++ buf) ++ run_bytes o) t w'
-          → map_option (λ z. z.block) o ≡ some block → Meets S R n (λ b. σ ++ b) (λ b x. length b ≡ size) (opt_m o (ret buf) (k S buf) s) (wrote_is u) w''
-      kept S j σ buf l top none s rep g = let y : ◌≡◌ {A = ℕ} 0 1 = cc in absurd (omega arith)
-      kept S j σ buf l top (some z) s rep g =
+          → option_map (λ z. z.block) o ≡ Some block → Meets S R n (λ b. σ ++ b) (λ b x. length b ≡ size) (opt_m o (ret buf) (k S buf) s) (wrote_is u) w''
+      kept S j σ buf l top None s rep g = let y : ◌≡◌ {A = ℕ} 0 1 = cc in absurd (omega arith)
+      kept S j σ buf l top (Some z) s rep g =
           let b : z.block ≡ block = cc in
           let x : length (σ ++ buf) ≡ length σ + length buf = length-append σ buf in
           let y : length ((σ ++ buf) ++ z.bytes) ≡ length (σ ++ buf) + length z.bytes = length-append (σ ++ buf) z.bytes in

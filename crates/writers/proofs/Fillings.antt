@@ -1,17 +1,15 @@
 -- What the writers of arrays answer. Assumes nothing.
+use Rattle.std.specs.Prelude.{Option}
 use mathlib.Core.Path.{◌≡◌, refl, sym, ap, ◌∙◌}
 use mathlib.Core.Bool.{Bool, true, false, not}
 use mathlib.Core.List.{List}
-use mathlib.Core.Option.{Option}
 use Prim.Native.Nat.{ℕ, min, ◌+◌, ◌-◌, ◌≤◌}
 use native.Mathlib.Omega.{arith}
 use borrow.Author.Tests.{not-true, not-false}
 use lib.Dec.{leb}
 use lib.ListN.{length}
 use Rattle.numbers.specs.Words.{Bytes, over, is_empty}
-use Rattle.value.specs.Rows.{Row, rows_from, children_of, value_row}
-use Rattle.value.specs.Answer.{value_is}
-use Rattle.value.specs.declared.Found.{Found}
+use Rattle.value.specs.Rows.{Row, rows_from, children_of, value_row, Value}
 use Rattle.schema.specs.Defs.{Schema}
 use Rattle.definitions.specs.declared.members.Member as coded
 use Rattle.layout.specs.Kinds
@@ -136,20 +134,20 @@ module _ (T F : Bytes) (R : Round) (left : ℕ) (p : Progress) (w : Bytes) (d : 
           fills_same (λ S o. o) (λ S o buf s. inline_run S buf s) (run_embedded (Of F) R (length w) p w 1 d.size items moved r w' h F d m block q u w'' i l refl (λ S buf y s. refl) g)
 
   -- ---- an array
-  module _ (v : Found) (info : Info) (known : info_is info ≡ array_info (def_of F d) (member_of m)) where
+  module _ (v : Value) (info : Info) (known : info_is info ≡ array_info (def_of F d) (member_of m)) where
     abbrev array : Schema → Bytes → M Bytes
-    array S buf = array_member (env_of T S R) (deeper T R left S) (def_of F d) (member_of m) (value_is v) buf
+    array S buf = array_member (env_of T S R) (deeper T R left S) (def_of F d) (member_of m) v buf
 
     -- what an array is made of, where its descriptor is there
     abbrev described : Schema → coded.Member → Bool → List ℕ → Bytes → M Bytes
-    described S x b rs buf = if_m b (array_of (env_of T S R) (deeper T R left S) (def_of F d) (member_of m) (member_of x) rs buf) (wrong (def_of F d) (member_of m) (value_is v) buf)
+    described S x b rs buf = if_m b (array_of (env_of T S R) (deeper T R left S) (def_of F d) (member_of m) (member_of x) rs buf) (wrong (def_of F d) (member_of m) v buf)
 
     none_is : (S : Schema) (buf : Bytes) (s : State) → info ≡ I.Missing → array S buf s ≡ leaves (def_of F d) (member_of m) 5 0 buf s
     unfolding array_member
     none_is S buf s i = opt_none (array_info (def_of F d) (member_of m)) (leaves (def_of F d) (member_of m) 5 0 buf) _ s (sym known ∙ ap info_is i)
 
     there_is : (S : Schema) (buf : Bytes) (s : State) (x : coded.Member) → info ≡ I.At x
-        → array S buf s ≡ described S x (is_array_value (env_of T S R) (value_row T (value_is v))) (children_of (value_row T (value_is v))) buf s
+        → array S buf s ≡ described S x (is_array_value (env_of T S R) (value_row T v)) (children_of (value_row T v)) buf s
     unfolding array_member
     there_is S buf s x i = opt_some (array_info (def_of F d) (member_of m)) (leaves (def_of F d) (member_of m) 5 0 buf) _ (member_of x) s (sym known ∙ ap info_is i)
 
@@ -157,26 +155,26 @@ module _ (T F : Bytes) (R : Round) (left : ℕ) (p : Progress) (w : Bytes) (d : 
     pub array_none : (q : Progress) (w' : Bytes) → info ≡ I.Missing → Notes R (length w) p w (remark_on d m 5 0) q w' → Fills (Of F) R (length w) p w d.size array (Done q) w'
     array_none q w' i h = fills_same (λ S o. o) (λ S o buf s. none_is S buf s i) (said R (length w) p w (Of F) d.size F d m 5 0 q w' safe more h)
 
-    module _ (x : coded.Member) (i : info ≡ I.At x) (y : Row) (read : y ≡ value_row T (value_is v)) (is : Bool) (judged : (S : Schema) (R : Round) → is ≡ is_array_value (env_of T S R) y) where
-      judge : (S : Schema) → is_array_value (env_of T S R) (value_row T (value_is v)) ≡ is
+    module _ (x : coded.Member) (i : info ≡ I.At x) (y : Row) (read : y ≡ value_row T v) (is : Bool) (judged : (S : Schema) (R : Round) → is ≡ is_array_value (env_of T S R) y) where
+      judge : (S : Schema) → is_array_value (env_of T S R) (value_row T v) ≡ is
       judge S = ap (λ (a : Row). is_array_value (env_of T S R) a) (sym read) ∙ sym (judged S R)
 
       -- remark 2
-      pub array_wrong : (r : Wrote) (w' : Bytes) → not is ≡ true → ((F : Bytes) → Fills any_schema R (length w) p w d.size (λ S buf. wrong (def_of F d) (member_of m) (value_is v) buf) r w')
+      pub array_wrong : (r : Wrote) (w' : Bytes) → not is ≡ true → ((F : Bytes) → Fills any_schema R (length w) p w d.size (λ S buf. wrong (def_of F d) (member_of m) v buf) r w')
           → Fills (Of F) R (length w) p w d.size array r w'
       array_wrong r w' t h =
           fills_same (λ S o. tt)
-          (λ S o buf s. there_is S buf s x i ∙ if_false _ _ (wrong (def_of F d) (member_of m) (value_is v) buf) s (judge S ∙ not-true is t)) (h F)
+          (λ S o buf s. there_is S buf s x i ∙ if_false _ _ (wrong (def_of F d) (member_of m) v buf) s (judge S ∙ not-true is t)) (h F)
 
       module _ (t : not is ≡ false) (n : ℕ) (counted : n ≡ item_count y) (aimed : Bool) (aims : aimed ≡ by_pointer m.subtype x.subtype) where
-        children : (S : Schema) → children_of (value_row T (value_is v)) ≡ rows_from y.a n
+        children : (S : Schema) → children_of (value_row T v) ≡ rows_from y.a n
         children S = rw (← read) (children_items (env_of T S R) y (sym (judged S R) ∙ not-false is t) ∙ ap (rows_from y.a) (sym counted))
 
         array_is : (S : Schema) (buf : Bytes) (s : State)
             → array S buf s ≡ array_of (env_of T S R) (deeper T R left S) (def_of F d) (member_of m) (member_of x) (rows_from y.a n) buf s
         array_is S buf s =
             there_is S buf s x i
-            ∙ if_true _ (array_of (env_of T S R) (deeper T R left S) (def_of F d) (member_of m) (member_of x) (children_of (value_row T (value_is v))) buf) _ s (judge S ∙ not-false is t)
+            ∙ if_true _ (array_of (env_of T S R) (deeper T R left S) (def_of F d) (member_of m) (member_of x) (children_of (value_row T v)) buf) _ s (judge S ∙ not-false is t)
             ∙ ap (λ (rs : List ℕ). array_of (env_of T S R) (deeper T R left S) (def_of F d) (member_of m) (member_of x) rs buf s) (children S)
 
         pointed_is_law : (S : Schema) (buf : Bytes) (s : State) → aimed ≡ true → array S buf s ≡ by_pointer' x y.a n S buf s

@@ -1,8 +1,8 @@
 -- Structures inline. No line here names a place of the code. Assumes nothing.
+use Rattle.std.specs.Prelude.{Option, Some, None}
 use mathlib.Core.Path.{◌≡◌, refl, sym, ap, subst, ◌∙◌}
 use mathlib.Core.Bool.{Bool, true, false}
 use mathlib.Core.List.{◌++◌}
-use mathlib.Core.Option.{none, some}
 use Prim.Native.Nat.{ℕ, ◌+◌, ◌-◌, ◌≤◌}
 use native.Mathlib.Omega.{arith}
 use lib.Dec.{leb}
@@ -27,8 +27,6 @@ use Rattle.area.proofs.Over.{length_over}
 use Rattle.area.proofs.Reps.{rep_shift}
 use Rattle.cells.specs.declared.defs.Def.{Def}
 use Rattle.cells.specs.Names.{def_of, member_of}
-use Rattle.members.specs.declared.Looked.{Looked}
-use Rattle.members.specs.declared.Looked.TheVariants as L
 use Rattle.members.specs.declared.Wrote.{Wrote}
 use Rattle.members.specs.declared.Wrote.TheVariants.{Done, Refused}
 use Rattle.members.specs.Names.{looked_is}
@@ -39,25 +37,25 @@ use Rattle.choices.proofs.Choosing.{looked_name}
 use Rattle.writers.specs.Posts.{Of, Named, deeper, Started, Pushed, Pushes}
 
 -- the name of a definition that was looked up stands for it
-pub looked_named : (F : Bytes) (S : Schema) (ref : ℕ) (i : Def) → schema_of F ≡ ok S → (winning S).struct ref ≡ some (def_of F i) → Named F i S
-looked_named F S ref i k e = record { of = k; winner = subst (λ (x : ℕ). (winning S).struct x ≡ some (def_of F i)) (sym (looked_name F S ref i e)) e }
+pub looked_named : (F : Bytes) (S : Schema) (ref : ℕ) (i : Def) → schema_of F ≡ ok S → (winning S).struct ref ≡ Some (def_of F i) → Named F i S
+looked_named F S ref i k e = record { of = k; winner = subst (λ (x : ℕ). (winning S).struct x ≡ Some (def_of F i)) (sym (looked_name F S ref i e)) e }
 
 -- what was looked up, by the answer
-pub looked_at_law : (F : Bytes) (ref : ℕ) (r : Looked) (i : Def) → ((S : Schema) → schema_of F ≡ ok S → (winning S).struct ref ≡ looked_is F r) → r ≡ L.At i
-    → (S : Schema) → schema_of F ≡ ok S → (winning S).struct ref ≡ some (def_of F i)
+pub looked_at_law : (F : Bytes) (ref : ℕ) (r : Option Def) (i : Def) → ((S : Schema) → schema_of F ≡ ok S → (winning S).struct ref ≡ looked_is F r) → r ≡ Some i
+    → (S : Schema) → schema_of F ≡ ok S → (winning S).struct ref ≡ Some (def_of F i)
 looked_at_law F ref r i h e S k = h S k ∙ ap (looked_is F) e
 
-pub looked_none : (F : Bytes) (ref : ℕ) (r : Looked) → ((S : Schema) → schema_of F ≡ ok S → (winning S).struct ref ≡ looked_is F r) → r ≡ L.Missing
-    → (S : Schema) → schema_of F ≡ ok S → (winning S).struct ref ≡ none
+pub looked_none : (F : Bytes) (ref : ℕ) (r : Option Def) → ((S : Schema) → schema_of F ≡ ok S → (winning S).struct ref ≡ looked_is F r) → r ≡ None
+    → (S : Schema) → schema_of F ≡ ok S → (winning S).struct ref ≡ None
 looked_none F ref r h e S k = h S k ∙ ap (looked_is F) e
 
 -- a member inline without its definition, and with it
-inline_none : (E : Env) (w : Writer) (d : StructDef) (e : Defs.Member) (v : Row) (buf : Bytes) → E.defs.struct e.reference ≡ none
+inline_none : (E : Env) (w : Writer) (d : StructDef) (e : Defs.Member) (v : Row) (buf : Bytes) → E.defs.struct e.reference ≡ None
     → inline_member E w d e v buf ≡ leaves d e 4 e.reference buf
 unfolding inline_member opt_m
 inline_none E w d e v buf h = rw h refl
 
-inline_some : (E : Env) (w : Writer) (d : StructDef) (e : Defs.Member) (v : Row) (buf : Bytes) (i : StructDef) → E.defs.struct e.reference ≡ some i
+inline_some : (E : Env) (w : Writer) (d : StructDef) (e : Defs.Member) (v : Row) (buf : Bytes) (i : StructDef) → E.defs.struct e.reference ≡ Some i
     → inline_member E w d e v buf ≡ need d e i.size buf (bind (w i (fields_of E.sheet v)) λ bs. ret (over buf e.offset bs))
 unfolding inline_member opt_m
 inline_some E w d e v buf i h = rw h refl
@@ -71,8 +69,8 @@ module _ (R : Round) (n : ℕ) (p : Progress) (w : Bytes) (T F : Bytes) (left : 
   put i S buf = bind (deeper T R left S (def_of F i) (fields_of T v)) λ bs. ret (over buf m.offset bs)
 
   -- there is no definition
-  pub inline_missing : (r : Looked) (q : Progress) (w' : Bytes) → Safe R n p → Open p
-      → ((S : Schema) → schema_of F ≡ ok S → (winning S).struct m.reference ≡ looked_is F r) → r ≡ L.Missing
+  pub inline_missing : (r : Option Def) (q : Progress) (w' : Bytes) → Safe R n p → Open p
+      → ((S : Schema) → schema_of F ≡ ok S → (winning S).struct m.reference ≡ looked_is F r) → r ≡ None
       → Notes R n p w (remark_on d m 4 m.reference) q w' → Fills (Of F) R n p w d.size inlined (Done q) w'
   inline_missing r q w' h o k e t =
       fills_as R n p w (Of F) (Of F) d.size inlined (λ S buf. leaves (def_of F d) (member_of m) 4 m.reference buf) (Done q) w'
@@ -80,15 +78,15 @@ module _ (R : Round) (n : ℕ) (p : Progress) (w : Bytes) (T F : Bytes) (left : 
       (said R n p w (Of F) d.size F d m 4 m.reference q w' h o t)
 
   -- the definition is i
-  known_as : (i : Def) → ((S : Schema) → schema_of F ≡ ok S → (winning S).struct m.reference ≡ some (def_of F i)) → (S : Schema) → Of F S → (buf : Bytes) (s : State)
+  known_as : (i : Def) → ((S : Schema) → schema_of F ≡ ok S → (winning S).struct m.reference ≡ Some (def_of F i)) → (S : Schema) → Of F S → (buf : Bytes) (s : State)
       → inlined S buf s ≡ need (def_of F d) (member_of m) i.size buf (put i S buf) s
   known_as i k S u buf s =
       ap (λ (a : M Bytes). a s) (inline_some (env_of T S R) (deeper T R left S) (def_of F d) (member_of m) v buf (def_of F i) (k S u)
       ∙ ap (λ (x : ℕ). need (def_of F d) (member_of m) x buf (put i S buf)) (def_size F i))
 
   -- it does not fit
-  pub inline_long : (r : Looked) (i : Def) (b : Bool) (q : Progress) (w' : Bytes) → Safe R n p → Open p
-      → ((S : Schema) → schema_of F ≡ ok S → (winning S).struct m.reference ≡ looked_is F r) → r ≡ L.At i → b ≡ leb (m.offset + i.size) d.size → b ≡ false
+  pub inline_long : (r : Option Def) (i : Def) (b : Bool) (q : Progress) (w' : Bytes) → Safe R n p → Open p
+      → ((S : Schema) → schema_of F ≡ ok S → (winning S).struct m.reference ≡ looked_is F r) → r ≡ Some i → b ≡ leb (m.offset + i.size) d.size → b ≡ false
       → Notes R n p w (remark_on d m 1 d.size) q w' → Fills (Of F) R n p w d.size inlined (Done q) w'
   inline_long r i b q w' h o k e f g t =
       fills_as R n p w (Of F) (Of F) d.size inlined (λ S buf. need (def_of F d) (member_of m) i.size buf (put i S buf)) (Done q) w'
@@ -96,7 +94,7 @@ module _ (R : Round) (n : ℕ) (p : Progress) (w : Bytes) (T F : Bytes) (left : 
       (too_long R n p w (Of F) F d m i.size (put i) q w' h o (sym f ∙ g) t)
 
   -- it fits
-  fitting : (i : Def) (fs : Fields) → ((S : Schema) → schema_of F ≡ ok S → (winning S).struct m.reference ≡ some (def_of F i)) → leb (m.offset + i.size) d.size ≡ true
+  fitting : (i : Def) (fs : Fields) → ((S : Schema) → schema_of F ≡ ok S → (winning S).struct m.reference ≡ Some (def_of F i)) → leb (m.offset + i.size) d.size ≡ true
       → fs ≡ fields_of T v → (S : Schema) → Of F S → (buf : Bytes) (s : State)
       → inlined S buf s ≡ after (deeper T R left S (def_of F i) fs s) (λ bs. ret (over buf m.offset bs))
   unfolding bind
@@ -104,13 +102,13 @@ module _ (R : Round) (n : ℕ) (p : Progress) (w : Bytes) (T F : Bytes) (left : 
       rw g (known_as i k S u buf s ∙ ap (λ (a : M Bytes). a s) (need_yes (def_of F d) (member_of m) i.size buf (put i S buf) (rw (def_size F d) f)))
 
   -- a refusal
-  pub inline_refused : (r : Looked) (i : Def) (b : Bool) (fs : Fields) (x : Wrote) (k : ℕ) (t : Progress) (w' : Bytes)
-      → ((S : Schema) → schema_of F ≡ ok S → (winning S).struct m.reference ≡ looked_is F r) → r ≡ L.At i → b ≡ leb (m.offset + i.size) d.size → b ≡ true
+  pub inline_refused : (r : Option Def) (i : Def) (b : Bool) (fs : Fields) (x : Wrote) (k : ℕ) (t : Progress) (w' : Bytes)
+      → ((S : Schema) → schema_of F ≡ ok S → (winning S).struct m.reference ≡ looked_is F r) → r ≡ Some i → b ≡ leb (m.offset + i.size) d.size → b ≡ true
       → fs ≡ fields_of T v → Pushes (Named F i) R n p w i.size (λ S. deeper T R left S (def_of F i) fs) x w' → x ≡ Refused k t
       → Fills (Of F) R n p w d.size inlined (Refused k t) w'
   inline_refused r i b fs x k t w' l e f g j a z =
       let c : Pushes (Named F i) R n p w i.size (λ S. deeper T R left S (def_of F i) fs) (Refused k t) w' = rw (← z) a in
-      let win : (S : Schema) → schema_of F ≡ ok S → (winning S).struct m.reference ≡ some (def_of F i) = looked_at_law F m.reference r i l e in
+      let win : (S : Schema) → schema_of F ≡ ok S → (winning S).struct m.reference ≡ Some (def_of F i) = looked_at_law F m.reference r i l e in
       record {
         grew = c.grew;
         says = λ S u s σ buf q y. rw (fitting i fs win (sym f ∙ g) j S u buf s)
@@ -154,14 +152,14 @@ module _ (R : Round) (n : ℕ) (p : Progress) (w : Bytes) (T F : Bytes) (left : 
   moved i t w1 to g e f dn te S σ buf l a (stop k es) h = absurd h
 
   -- its bytes are in the parent
-  pub inline_done : (r : Looked) (i : Def) (b : Bool) (fs : Fields) (x : Wrote) (t : Progress) (w1 w2 : Bytes) → Safe R n p → Buffer R p d.size
-      → ((S : Schema) → schema_of F ≡ ok S → (winning S).struct m.reference ≡ looked_is F r) → r ≡ L.At i → b ≡ leb (m.offset + i.size) d.size → b ≡ true
+  pub inline_done : (r : Option Def) (i : Def) (b : Bool) (fs : Fields) (x : Wrote) (t : Progress) (w1 w2 : Bytes) → Safe R n p → Buffer R p d.size
+      → ((S : Schema) → schema_of F ≡ ok S → (winning S).struct m.reference ≡ looked_is F r) → r ≡ Some i → b ≡ leb (m.offset + i.size) d.size → b ≡ true
       → fs ≡ fields_of T v → Pushes (Named F i) R n p w i.size (λ S. deeper T R left S (def_of F i) fs) x w1 → x ≡ Done t
       → w2 ≡ over (over w1 (p.top - d.size + m.offset) (take i.size (drop p.top w1))) p.top (zeros i.size)
       → Fills (Of F) R n p w d.size inlined (Done (with_top t p.top)) w2
   inline_done r i b fs x t w1 w2 h bu l e f g j a z q =
       let c : Pushes (Named F i) R n p w i.size (λ S. deeper T R left S (def_of F i) fs) (Done t) w1 = rw (← z) a in
-      let win : (S : Schema) → schema_of F ≡ ok S → (winning S).struct m.reference ≡ some (def_of F i) = looked_at_law F m.reference r i l e in
+      let win : (S : Schema) → schema_of F ≡ ok S → (winning S).struct m.reference ≡ Some (def_of F i) = looked_at_law F m.reference r i l e in
       let fit : m.offset + i.size ≤ d.size = leb-true (m.offset + i.size) d.size (sym f ∙ g) in
       record {
         grew = inline_went i.size t h c.grew.0 c.grew.1;

@@ -1,8 +1,8 @@
 -- Members and runs by their kind. No line here names a place of the code. Assumes nothing.
+use Rattle.std.specs.Prelude.{Option, Some, None}
 use mathlib.Core.Path.{◌≡◌, refl, sym, ap, ◌∙◌}
 use mathlib.Core.Bool.{Bool, true, false, cond, ◌||◌}
 use mathlib.Core.List.{List}
-use mathlib.Core.Option.{Option, none, some}
 use mathlib.Core.Logic.{◌⊎◌, inl, inr}
 use Prim.Native.Nat.{ℕ}
 use native.Mathlib.Omega.{arith}
@@ -11,8 +11,6 @@ use borrow.Author.Tests.{eq-eqb, ne_eqb}
 use Rattle.numbers.specs.Words.{Bytes}
 use Rattle.numbers.specs.Result.{ok}
 use Rattle.value.specs.Rows.{Value, Row, value_row, rows_from}
-use Rattle.value.specs.Answer.{value_is}
-use Rattle.value.specs.declared.Found.{Found}
 use Rattle.schema.specs.Defs
 use Rattle.schema.specs.Defs.{Schema, StructDef, winning}
 use Rattle.schema.specs.Psch.{schema_of}
@@ -30,8 +28,6 @@ use Rattle.area.specs.Area.{env_of}
 use Rattle.cells.specs.declared.defs.Def.{Def}
 use Rattle.cells.specs.Names.{def_of, member_of}
 use Rattle.cells.specs.Plans.{plain_member}
-use Rattle.members.specs.declared.Looked.{Looked}
-use Rattle.members.specs.declared.Looked.TheVariants as L
 use Rattle.members.specs.declared.Wrote.{Wrote}
 use Rattle.members.specs.Names.{looked_is}
 use Rattle.members.specs.Posts.{any_schema, Fills}
@@ -174,59 +170,59 @@ run_pointed : (E : Env) (w : Writer) (d : StructDef) (e x : Defs.Member) (rs : L
 unfolding element_run runs.struct_run if_m
 run_pointed E w d e x rs h = rw h refl
 
-run_none : (E : Env) (w : Writer) (d : StructDef) (e x : Defs.Member) (rs : List ℕ) → eqb x.subtype 3 ≡ false → E.defs.struct x.reference ≡ none
+run_none : (E : Env) (w : Writer) (d : StructDef) (e x : Defs.Member) (rs : List ℕ) → eqb x.subtype 3 ≡ false → E.defs.struct x.reference ≡ None
     → element_run E w d e x Kinds.structure rs ≡ runs.stops d e 8 x.reference
 unfolding element_run runs.struct_run if_m opt_m
 run_none E w d e x rs h k = rw (h, k) refl
 
-run_some : (E : Env) (w : Writer) (d : StructDef) (e x : Defs.Member) (rs : List ℕ) (i : StructDef) → eqb x.subtype 3 ≡ false → E.defs.struct x.reference ≡ some i
+run_some : (E : Env) (w : Writer) (d : StructDef) (e x : Defs.Member) (rs : List ℕ) (i : StructDef) → eqb x.subtype 3 ≡ false → E.defs.struct x.reference ≡ Some i
     → element_run E w d e x Kinds.structure rs ≡ runs.run E i.size i.name (runs.struct_element E w d e i) rs
 unfolding element_run runs.struct_run if_m opt_m
 run_some E w d e x rs i h k = rw (h, k) refl
 
-module _ (R : Round) (n : ℕ) (p : Progress) (w : Bytes) (T F : Bytes) (left : ℕ) (d : Def) (m : coded.Member) (v : Found) where
+module _ (R : Round) (n : ℕ) (p : Progress) (w : Bytes) (T F : Bytes) (left : ℕ) (d : Def) (m : coded.Member) (v : Value) where
   abbrev as_struct : Schema → Bytes → M Bytes
-  as_struct S buf = struct_member (env_of T S R) (deeper T R left S) (def_of F d) (member_of m) (value_is v) buf
+  as_struct S buf = struct_member (env_of T S R) (deeper T R left S) (def_of F d) (member_of m) v buf
 
   abbrev as_member : Schema → Bytes → M Bytes
-  as_member S buf = member (env_of T S R) (deeper T R left S) (def_of F d) (member_of m) (kind_of m.kind) (value_is v) buf
+  as_member S buf = member (env_of T S R) (deeper T R left S) (def_of F d) (member_of m) (kind_of m.kind) v buf
 
   -- a structure member
-  pub structure_wrong : (u : Row) (b : Bool) (r : Wrote) (w' : Bytes) → u ≡ value_row T (value_is v) → ((E : Env) → b ≡ is_struct_value E u) → b ≡ false
-      → ((F : Bytes) → Fills any_schema R n p w d.size (λ S buf. members.wrong (def_of F d) (member_of m) (value_is v) buf) r w') → Fills (Of F) R n p w d.size as_struct r w'
+  pub structure_wrong : (u : Row) (b : Bool) (r : Wrote) (w' : Bytes) → u ≡ value_row T v → ((E : Env) → b ≡ is_struct_value E u) → b ≡ false
+      → ((F : Bytes) → Fills any_schema R n p w d.size (λ S buf. members.wrong (def_of F d) (member_of m) v buf) r w') → Fills (Of F) R n p w d.size as_struct r w'
   structure_wrong u b r w' z h e a =
-      fills_as R n p w (Of F) any_schema d.size as_struct (λ S buf. members.wrong (def_of F d) (member_of m) (value_is v) buf) r w'
+      fills_as R n p w (Of F) any_schema d.size as_struct (λ S buf. members.wrong (def_of F d) (member_of m) v buf) r w'
       (λ S k. (
         tt,
         λ buf s. ap (λ (a : M Bytes). a s)
-            (struct_wrong (env_of T S R) (deeper T R left S) (def_of F d) (member_of m) (value_is v) buf (rw (← z) (sym (h (env_of T S R)) ∙ e))),
+            (struct_wrong (env_of T S R) (deeper T R left S) (def_of F d) (member_of m) v buf (rw (← z) (sym (h (env_of T S R)) ∙ e))),
       )) (a F)
 
-  pub structure_inline : (u : Row) (b : Bool) (r : Wrote) (w' : Bytes) → u ≡ value_row T (value_is v) → ((E : Env) → b ≡ is_struct_value E u) → b ≡ true → m.subtype ≡ 0
-      → Fills (Of F) R n p w d.size (λ S buf. inline_member (env_of T S R) (deeper T R left S) (def_of F d) (member_of m) (value_row T (value_is v)) buf) r w'
+  pub structure_inline : (u : Row) (b : Bool) (r : Wrote) (w' : Bytes) → u ≡ value_row T v → ((E : Env) → b ≡ is_struct_value E u) → b ≡ true → m.subtype ≡ 0
+      → Fills (Of F) R n p w d.size (λ S buf. inline_member (env_of T S R) (deeper T R left S) (def_of F d) (member_of m) (value_row T v) buf) r w'
       → Fills (Of F) R n p w d.size as_struct r w'
   structure_inline u b r w' z h e f a =
-      fills_as R n p w (Of F) (Of F) d.size as_struct (λ S buf. inline_member (env_of T S R) (deeper T R left S) (def_of F d) (member_of m) (value_row T (value_is v)) buf) r w'
+      fills_as R n p w (Of F) (Of F) d.size as_struct (λ S buf. inline_member (env_of T S R) (deeper T R left S) (def_of F d) (member_of m) (value_row T v) buf) r w'
       (λ S k. (
         k,
         λ buf s. ap (λ (a : M Bytes). a s)
-            (struct_inline (env_of T S R) (deeper T R left S) (def_of F d) (member_of m) (value_is v) buf (rw (← z) (sym (h (env_of T S R)) ∙ e)) (eq-eqb m.subtype 0 f)),
+            (struct_inline (env_of T S R) (deeper T R left S) (def_of F d) (member_of m) v buf (rw (← z) (sym (h (env_of T S R)) ∙ e)) (eq-eqb m.subtype 0 f)),
       )) a
 
-  pub structure_pointed : (u : Row) (b : Bool) (r : Wrote) (w' : Bytes) → u ≡ value_row T (value_is v) → ((E : Env) → b ≡ is_struct_value E u) → b ≡ true → (m.subtype ≡ 0 → ⊥)
-      → Fills (Of F) R n p w d.size (λ S buf. pointed_member (env_of T S R) (deeper T R left S) (def_of F d) (member_of m) (value_row T (value_is v)) buf) r w'
+  pub structure_pointed : (u : Row) (b : Bool) (r : Wrote) (w' : Bytes) → u ≡ value_row T v → ((E : Env) → b ≡ is_struct_value E u) → b ≡ true → (m.subtype ≡ 0 → ⊥)
+      → Fills (Of F) R n p w d.size (λ S buf. pointed_member (env_of T S R) (deeper T R left S) (def_of F d) (member_of m) (value_row T v) buf) r w'
       → Fills (Of F) R n p w d.size as_struct r w'
   structure_pointed u b r w' z h e f a =
-      fills_as R n p w (Of F) (Of F) d.size as_struct (λ S buf. pointed_member (env_of T S R) (deeper T R left S) (def_of F d) (member_of m) (value_row T (value_is v)) buf) r w'
+      fills_as R n p w (Of F) (Of F) d.size as_struct (λ S buf. pointed_member (env_of T S R) (deeper T R left S) (def_of F d) (member_of m) (value_row T v) buf) r w'
       (λ S k. (
         k,
         λ buf s. ap (λ (a : M Bytes). a s)
-            (struct_pointed (env_of T S R) (deeper T R left S) (def_of F d) (member_of m) (value_is v) buf (rw (← z) (sym (h (env_of T S R)) ∙ e)) (ne_eqb m.subtype 0 f)),
+            (struct_pointed (env_of T S R) (deeper T R left S) (def_of F d) (member_of m) v buf (rw (← z) (sym (h (env_of T S R)) ∙ e)) (ne_eqb m.subtype 0 f)),
       )) a
 
   -- a member of a kind
   of_kind : (k : Kinds.Kind) (g : Schema → Bytes → M Bytes) (r : Wrote) (w' : Bytes) → kind_of m.kind ≡ k
-      → ((S : Schema) (buf : Bytes) → member (env_of T S R) (deeper T R left S) (def_of F d) (member_of m) k (value_is v) buf ≡ g S buf)
+      → ((S : Schema) (buf : Bytes) → member (env_of T S R) (deeper T R left S) (def_of F d) (member_of m) k v buf ≡ g S buf)
       → Fills (Of F) R n p w d.size g r w' → Fills (Of F) R n p w d.size as_member r w'
   of_kind k g r w' e h a =
       let eq : (S : Schema) (buf : Bytes) → as_member S buf ≡ g S buf = λ S buf. rw e (h S buf) in
@@ -235,25 +231,25 @@ module _ (R : Round) (n : ℕ) (p : Progress) (w : Bytes) (T F : Bytes) (left : 
   pub member_as_structure : (r : Wrote) (w' : Bytes) → m.kind ≡ 12
       → Fills (Of F) R n p w d.size as_struct r w' → Fills (Of F) R n p w d.size as_member r w'
   member_as_structure r w' e a =
-      of_kind Kinds.structure as_struct r w' (kind_structure m.kind e) (λ S buf. member_structure (env_of T S R) (deeper T R left S) (def_of F d) (member_of m) (value_is v) buf) a
+      of_kind Kinds.structure as_struct r w' (kind_structure m.kind e) (λ S buf. member_structure (env_of T S R) (deeper T R left S) (def_of F d) (member_of m) v buf) a
 
   pub member_as_array : (r : Wrote) (w' : Bytes) → m.kind ≡ 13
-      → Fills (Of F) R n p w d.size (λ S buf. array_member (env_of T S R) (deeper T R left S) (def_of F d) (member_of m) (value_is v) buf) r w' → Fills (Of F) R n p w d.size as_member r w'
+      → Fills (Of F) R n p w d.size (λ S buf. array_member (env_of T S R) (deeper T R left S) (def_of F d) (member_of m) v buf) r w' → Fills (Of F) R n p w d.size as_member r w'
   member_as_array r w' e a =
-      of_kind Kinds.array (λ S buf. array_member (env_of T S R) (deeper T R left S) (def_of F d) (member_of m) (value_is v) buf) r w' (kind_array m.kind e)
-      (λ S buf. member_array (env_of T S R) (deeper T R left S) (def_of F d) (member_of m) (value_is v) buf) a
+      of_kind Kinds.array (λ S buf. array_member (env_of T S R) (deeper T R left S) (def_of F d) (member_of m) v buf) r w' (kind_array m.kind e)
+      (λ S buf. member_array (env_of T S R) (deeper T R left S) (def_of F d) (member_of m) v buf) a
 
   pub member_as_map : (r : Wrote) (w' : Bytes) → m.kind ≡ 16
-      → Fills (Of F) R n p w d.size (λ S buf. map_member (env_of T S R) (deeper T R left S) (def_of F d) (member_of m) (value_is v) buf) r w' → Fills (Of F) R n p w d.size as_member r w'
+      → Fills (Of F) R n p w d.size (λ S buf. map_member (env_of T S R) (deeper T R left S) (def_of F d) (member_of m) v buf) r w' → Fills (Of F) R n p w d.size as_member r w'
   member_as_map r w' e a =
-      of_kind Kinds.map (λ S buf. map_member (env_of T S R) (deeper T R left S) (def_of F d) (member_of m) (value_is v) buf) r w' (kind_map m.kind e)
-      (λ S buf. member_map (env_of T S R) (deeper T R left S) (def_of F d) (member_of m) (value_is v) buf) a
+      of_kind Kinds.map (λ S buf. map_member (env_of T S R) (deeper T R left S) (def_of F d) (member_of m) v buf) r w' (kind_map m.kind e)
+      (λ S buf. member_map (env_of T S R) (deeper T R left S) (def_of F d) (member_of m) v buf) a
 
   pub member_as_plain : (r : Wrote) (w' : Bytes) → (m.kind ≡ 12 → ⊥) → (m.kind ≡ 13 → ⊥) → (m.kind ≡ 16 → ⊥)
-      → Fills (Of F) R n p w d.size (λ S buf. plain_member (env_of T S R) (def_of F d) (member_of m) (kind_of m.kind) (value_is v) buf) r w' → Fills (Of F) R n p w d.size as_member r w'
+      → Fills (Of F) R n p w d.size (λ S buf. plain_member (env_of T S R) (def_of F d) (member_of m) (kind_of m.kind) v buf) r w' → Fills (Of F) R n p w d.size as_member r w'
   member_as_plain r w' a b c h =
-      of_kind (kind_of m.kind) (λ S buf. plain_member (env_of T S R) (def_of F d) (member_of m) (kind_of m.kind) (value_is v) buf) r w' refl
-      (λ S buf. member_plain (env_of T S R) (deeper T R left S) (def_of F d) (member_of m) (kind_of m.kind) (value_is v) buf (kind_plain m.kind a b c)) h
+      of_kind (kind_of m.kind) (λ S buf. plain_member (env_of T S R) (def_of F d) (member_of m) (kind_of m.kind) v buf) r w' refl
+      (λ S buf. member_plain (env_of T S R) (deeper T R left S) (def_of F d) (member_of m) (kind_of m.kind) v buf (kind_plain m.kind a b c)) h
 
 module _ (R : Round) (n : ℕ) (p : Progress) (w : Bytes) (T F : Bytes) (left : ℕ) (d : Def) (m x : coded.Member) (first count : ℕ) where
   abbrev as_run : Schema → M (Option Run)
@@ -273,7 +269,7 @@ module _ (R : Round) (n : ℕ) (p : Progress) (w : Bytes) (T F : Bytes) (left : 
       (λ S. runs.run (env_of T S R) 8 12 (runs.pointer_element (env_of T S R) (deeper T R left S) (def_of F d) (member_of m) x.reference) (rows_from first count)) r w' (omega arith)
       (λ S k. (k, rw (kind_structure x.kind e) (run_pointed (env_of T S R) (deeper T R left S) (def_of F d) (member_of m) (member_of x) (rows_from first count) (eq-eqb x.subtype 3 f)))) a
 
-  pub run_missing : (l : Looked) (r : Ran) (w' : Bytes) → x.kind ≡ 12 → (x.subtype ≡ 3 → ⊥) → ((S : Schema) → schema_of F ≡ ok S → (winning S).struct x.reference ≡ looked_is F l) → l ≡ L.Missing
+  pub run_missing : (l : Option Def) (r : Ran) (w' : Bytes) → x.kind ≡ 12 → (x.subtype ≡ 3 → ⊥) → ((S : Schema) → schema_of F ≡ ok S → (winning S).struct x.reference ≡ looked_is F l) → l ≡ None
       → ((F : Bytes) → Yields any_schema R n p w 1 (λ S. runs.stops (def_of F d) (member_of m) 8 x.reference) r w') → Yields (Of F) R n p w 1 as_run r w'
   run_missing l r w' e f h g a =
       yields_as R n p w (Of F) any_schema 1 1 as_run (λ S. runs.stops (def_of F d) (member_of m) 8 x.reference) r w' (omega arith)
@@ -283,11 +279,11 @@ module _ (R : Round) (n : ℕ) (p : Progress) (w : Bytes) (T F : Bytes) (left : 
             (run_none (env_of T S R) (deeper T R left S) (def_of F d) (member_of m) (member_of x) (rows_from first count) (ne_eqb x.subtype 3 f) (looked_none F x.reference l h g S k)),
       )) (a F)
 
-  pub run_structs : (l : Looked) (i : Def) (r : Ran) (w' : Bytes) → x.kind ≡ 12 → (x.subtype ≡ 3 → ⊥) → ((S : Schema) → schema_of F ≡ ok S → (winning S).struct x.reference ≡ looked_is F l) → l ≡ L.At i
+  pub run_structs : (l : Option Def) (i : Def) (r : Ran) (w' : Bytes) → x.kind ≡ 12 → (x.subtype ≡ 3 → ⊥) → ((S : Schema) → schema_of F ≡ ok S → (winning S).struct x.reference ≡ looked_is F l) → l ≡ Some i
       → Yields (Named F i) R n p w 0 (λ S. struct_run (env_of T S R) (deeper T R left S) (def_of F d) (member_of m) (def_of F i) i.name first count false) r w' → Yields (Of F) R n p w 1 as_run r w'
   run_structs l i r w' e f h g a =
       yields_as R n p w (Of F) (Named F i) 0 1 as_run (λ S. struct_run (env_of T S R) (deeper T R left S) (def_of F d) (member_of m) (def_of F i) i.name first count false) r w' (omega arith)
-      (λ S k. let y : (winning S).struct x.reference ≡ some (def_of F i) = looked_at_law F x.reference l i h g S k in (
+      (λ S k. let y : (winning S).struct x.reference ≡ Some (def_of F i) = looked_at_law F x.reference l i h g S k in (
         looked_named F S x.reference i k y,
         rw (kind_structure x.kind e)
             (run_some (env_of T S R) (deeper T R left S) (def_of F d) (member_of m) (member_of x) (rows_from first count) (def_of F i) (ne_eqb x.subtype 3 f) y

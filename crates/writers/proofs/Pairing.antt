@@ -1,8 +1,8 @@
 -- What the writers of maps answer. Assumes nothing.
+use Rattle.std.specs.Prelude.{Option, Some, None}
 use mathlib.Core.Path.{◌≡◌, refl, sym, ap, subst, ◌∙◌}
 use mathlib.Core.Bool.{Bool, true, false, not, ◌&&◌, ◌||◌}
 use mathlib.Core.List.{List, [], ◌∷◌, ◌++◌}
-use mathlib.Core.Option.{Option, some}
 use Prim.Native.Nat.{ℕ, zero, suc, ◌+◌, ◌-◌, ◌*◌, ◌≤◌, ◌<◌}
 use native.Mathlib.Omega.{arith}
 use borrow.Author.Tests.{not-true, not-false, eq-eqb, ne_eqb}
@@ -11,9 +11,7 @@ use lib.ListN.{length, length-append}
 use Rattle.numbers.specs.Words.{Bytes, bytes_of, words, over, is_empty}
 use Rattle.numbers.specs.Result.{ok}
 use Rattle.numbers.proofs.Bytes.{length_bytes}
-use Rattle.value.specs.Rows.{Row, rows_from, children_of, value_row}
-use Rattle.value.specs.Answer.{value_is}
-use Rattle.value.specs.declared.Found.{Found}
+use Rattle.value.specs.Rows.{Row, rows_from, children_of, value_row, Value}
 use Rattle.schema.specs.Defs.{Schema, winning}
 use Rattle.schema.specs.Psch.{schema_of}
 use Rattle.definitions.specs.declared.members.Member as coded
@@ -29,8 +27,6 @@ use Rattle.area.proofs.Over.{length_over, words_one}
 use Rattle.area.proofs.Reps.{rep_put}
 use Rattle.cells.specs.declared.defs.Def.{Def}
 use Rattle.cells.specs.Names.{def_of, member_of}
-use Rattle.members.specs.declared.Looked.{Looked}
-use Rattle.members.specs.declared.Looked.TheVariants as L
 use Rattle.members.specs.declared.Wrote.{Wrote}
 use Rattle.members.specs.declared.Wrote.TheVariants.{Done, Refused}
 use Rattle.members.specs.Names.{looked_is}
@@ -62,7 +58,7 @@ module _ (T F : Bytes) (R : Round) (left : ℕ) (p : Progress) (w : Bytes) (d : 
 
   -- ---- pairs, at least one
   module _ (low : stack_at R + d.size ≤ p.top) (room : m.offset + 24 ≤ d.size) (first n : ℕ) (some' : 0 < n) (h : ℕ) (named : h ≡ reference_at (def_of F d) (low16 m.reference))
-      (found : Looked) (looked : (S : Schema) → schema_of F ≡ ok S → (winning S).struct h ≡ looked_is F found) where
+      (found : Option Def) (looked : (S : Schema) → schema_of F ≡ ok S → (winning S).struct h ≡ looked_is F found) where
     -- their run, of the definition i
     abbrev run' : Def → Schema → M (Option Run)
     run' i S = struct_run (env_of T S R) (deeper T R left S) (def_of F d) (member_of m) (def_of F i) i.name first n true
@@ -74,14 +70,14 @@ module _ (T F : Bytes) (R : Round) (left : ℕ) (p : Progress) (w : Bytes) (d : 
     asked : (S : Schema) (buf : Bytes) (s : State) → pairs first n S buf s ≡ map_of (env_of T S R) (deeper T R left S) (def_of F d) (member_of m) h (pairs_of (rows_from first (2 * n))) buf s
     asked S buf s = rw named refl
 
-    missing_is : (S : Schema) (buf : Bytes) (s : State) → Of F S → found ≡ L.Missing → pairs first n S buf s ≡ leaves (def_of F d) (member_of m) 7 h buf s
+    missing_is : (S : Schema) (buf : Bytes) (s : State) → Of F S → found ≡ None → pairs first n S buf s ≡ leaves (def_of F d) (member_of m) 7 h buf s
     unfolding map_of
     missing_is S buf s o e =
         asked S buf s ∙ if_false (is_empty (pairs_of (rows_from first (2 * n)))) (ret buf) _ s (pairs_some first n (λ z. omega arith))
         ∙ opt_none ((winning S).struct h) (leaves (def_of F d) (member_of m) 7 h buf) _ s (looked S o ∙ ap (looked_is F) e)
 
-    module _ (i : Def) (e : found ≡ L.At i) where
-      stands : (S : Schema) → Of F S → (winning S).struct h ≡ some (def_of F i)
+    module _ (i : Def) (e : found ≡ Some i) where
+      stands : (S : Schema) → Of F S → (winning S).struct h ≡ Some (def_of F i)
       stands S o = looked S o ∙ ap (looked_is F) e
 
       name_is : (S : Schema) → Of F S → i.name ≡ h
@@ -125,13 +121,13 @@ module _ (T F : Bytes) (R : Round) (left : ℕ) (p : Progress) (w : Bytes) (d : 
             (subst (λ (at : ℕ). Lodges R (length w') q w' block (q.top - p.top) at n u w'') a x))
 
     -- remark 7
-    pub pairs_missing : (q : Progress) (w' : Bytes) → found ≡ L.Missing → Notes R (length w) p w (remark_on d m 7 h) q w' → Fills (Of F) R (length w) p w d.size (pairs first n) (Done q) w'
+    pub pairs_missing : (q : Progress) (w' : Bytes) → found ≡ None → Notes R (length w) p w (remark_on d m 7 h) q w' → Fills (Of F) R (length w) p w d.size (pairs first n) (Done q) w'
     pairs_missing q w' e x = fills_same (λ S o. o) (λ S o buf s. missing_is S buf s o e) (said R (length w) p w (Of F) d.size F d m 7 h q w' safe more x)
 
   -- ---- a map
-  module _ (v : Found) where
+  module _ (v : Value) where
     abbrev map : Schema → Bytes → M Bytes
-    map S buf = map_member (env_of T S R) (deeper T R left S) (def_of F d) (member_of m) (value_is v) buf
+    map S buf = map_member (env_of T S R) (deeper T R left S) (def_of F d) (member_of m) v buf
 
     subtype_is : (S : Schema) (buf : Bytes) (s : State) → (m.subtype ≡ 1 → ⊥) → map S buf s ≡ leaves (def_of F d) (member_of m) 6 m.subtype buf s
     unfolding map_member
@@ -145,11 +141,11 @@ module _ (T F : Bytes) (R : Round) (left : ℕ) (p : Progress) (w : Bytes) (d : 
       -- a map that fits
       abbrev body : Schema → Bytes → Bool → M Bytes
       body S buf b =
-          if_m b (map_of (env_of T S R) (deeper T R left S) (def_of F d) (member_of m) (reference_at (def_of F d) (low16 m.reference)) (pairs_of (children_of (value_row T (value_is v)))) (over buf m.offset (words (mark ∷ []))))
-          (wrong (def_of F d) (member_of m) (value_is v) buf)
+          if_m b (map_of (env_of T S R) (deeper T R left S) (def_of F d) (member_of m) (reference_at (def_of F d) (low16 m.reference)) (pairs_of (children_of (value_row T v))) (over buf m.offset (words (mark ∷ []))))
+          (wrong (def_of F d) (member_of m) v buf)
 
       abbrev kind : ℕ
-      kind = (value_row T (value_is v)).kind
+      kind = (value_row T v).kind
 
       needs_is : (S : Schema) (buf : Bytes) (s : State) → map S buf s ≡ need (def_of F d) (member_of m) 24 buf (body S buf (eqb kind 20 || eqb kind 0)) s
       unfolding map_member
@@ -177,7 +173,7 @@ module _ (T F : Bytes) (R : Round) (left : ℕ) (p : Progress) (w : Bytes) (d : 
           positive zero f = absurd (f refl)
           positive (suc k) f = omega arith
 
-      module _ (t : not fit ≡ false) (y : Row) (read : y ≡ value_row T (value_is v)) where
+      module _ (t : not fit ≡ false) (y : Row) (read : y ≡ value_row T v) where
         fits_is : (S : Schema) (buf : Bytes) (s : State) → map S buf s ≡ body S buf (eqb kind 20 || eqb kind 0) s
         fits_is S buf s = needs_is S buf s ∙ need_fits F d m 24 buf (body S buf (eqb kind 20 || eqb kind 0)) s (sym e ∙ not-false fit t)
 
@@ -186,21 +182,21 @@ module _ (T F : Bytes) (R : Round) (left : ℕ) (p : Progress) (w : Bytes) (d : 
 
         -- remark 2
         pub map_wrong : (r : Wrote) (w' : Bytes) → not (eqb y.kind 20) && not (eqb y.kind 0) ≡ true
-            → ((F : Bytes) → Fills any_schema R (length w) p w d.size (λ S buf. wrong (def_of F d) (member_of m) (value_is v) buf) r w') → Fills (Of F) R (length w) p w d.size map r w'
+            → ((F : Bytes) → Fills any_schema R (length w) p w d.size (λ S buf. wrong (def_of F d) (member_of m) v buf) r w') → Fills (Of F) R (length w) p w d.size map r w'
         map_wrong r w' a x =
-            fills_same (λ S o. tt) (λ S o buf s. fits_is S buf s ∙ if_false (eqb kind 20 || eqb kind 0) _ (wrong (def_of F d) (member_of m) (value_is v) buf) s (same_kind ∙ map_other y.kind a)) (x F)
+            fills_same (λ S o. tt) (λ S o buf s. fits_is S buf s ∙ if_false (eqb kind 20 || eqb kind 0) _ (wrong (def_of F d) (member_of m) v buf) s (same_kind ∙ map_other y.kind a)) (x F)
 
         module _ (a : not (eqb y.kind 20) && not (eqb y.kind 0) ≡ false) (n : ℕ) (counted : n ≡ pair_count y) (low : stack_at R + d.size ≤ p.top) (w' : Bytes)
             (put : w' ≡ put_pointer w (p.top - d.size + m.offset) mark) where
-          children : children_of (value_row T (value_is v)) ≡ rows_from y.a (2 * n)
+          children : children_of (value_row T v) ≡ rows_from y.a (2 * n)
           children = rw (← read, counted) (children_pairs y (map_or_null y.kind a))
 
           marked_is : (S : Schema) (buf : Bytes) (s : State) → map S buf s ≡ pairs y.a n S (over buf m.offset (words (mark ∷ []))) s
           marked_is S buf s =
               fits_is S buf s
               ∙ if_true (eqb kind 20 || eqb kind 0)
-              (map_of (env_of T S R) (deeper T R left S) (def_of F d) (member_of m) (reference_at (def_of F d) (low16 m.reference)) (pairs_of (children_of (value_row T (value_is v)))) (over buf m.offset (words (mark ∷ []))))
-              (wrong (def_of F d) (member_of m) (value_is v) buf) s (same_kind ∙ map_or_null y.kind a)
+              (map_of (env_of T S R) (deeper T R left S) (def_of F d) (member_of m) (reference_at (def_of F d) (low16 m.reference)) (pairs_of (children_of (value_row T v))) (over buf m.offset (words (mark ∷ []))))
+              (wrong (def_of F d) (member_of m) v buf) s (same_kind ∙ map_or_null y.kind a)
               ∙ ap (λ (rs : List ℕ). map_of (env_of T S R) (deeper T R left S) (def_of F d) (member_of m) (reference_at (def_of F d) (low16 m.reference)) (pairs_of rs) (over buf m.offset (words (mark ∷ []))) s) children
 
           -- the area with the mark

@@ -1,15 +1,14 @@
 -- A run of structures by pointer, element by element: 8 bytes each. Assumes nothing.
+use Rattle.std.specs.Prelude.{Option, Some, None, unwrap_or}
 use mathlib.Core.Path.{◌≡◌, refl, sym, ap}
 use mathlib.Core.Bool.{true, false}
 use mathlib.Core.List.{◌++◌}
-use mathlib.Core.Option.{Option, none, some}
 use Prim.Native.Nat.{ℕ, ◌+◌, ◌*◌, ◌≤◌, ◌<◌}
 use native.Mathlib.Omega.{arith}
 use borrow.Author.Tests.{eq-eqb, ne_eqb}
 use lib.Dec.{eqb}
 use lib.ListN.{length-replicate}
 use Rattle.numbers.specs.Words.{Bytes, bytes_of, over, zeros}
-use Rattle.numbers.specs.Result.{or_value}
 use Rattle.numbers.proofs.Bytes.{length_bytes}
 use Rattle.value.specs.Rows.{row, rows_from, Struct}
 use Rattle.schema.specs.Defs.{Schema}
@@ -41,12 +40,12 @@ module _ (F T : Bytes) (R : Round) (n left : ℕ) (d : Def) (m : coded.Member) (
   aims r S = pointed (env_of T S R) (deeper T R left S) (def_of F d) (member_of m) reference (row T r)
 
   -- what is no Struct leaves its 8 bytes zero
-  slot_none : (S : Schema) (r : ℕ) (u : State) → eqb (row T r).kind Struct ≡ false → pointer_of S r u ≡ done (some (zeros 8)) u
+  slot_none : (S : Schema) (r : ℕ) (u : State) → eqb (row T r).kind Struct ≡ false → pointer_of S r u ≡ done (Some (zeros 8)) u
   unfolding pointer_element if_m ret
   slot_none S r u e = rw e refl
 
   slot_some : (S : Schema) (r : ℕ) (u : State) → eqb (row T r).kind Struct ≡ true
-      → pointer_of S r u ≡ after (aims r S u) (λ o. ret (some (put_pointer (zeros 8) 0 (or_value o 0))))
+      → pointer_of S r u ≡ after (aims r S u) (λ o. ret (Some (put_pointer (zeros 8) 0 (unwrap_or o 0))))
   unfolding pointer_element if_m bind
   slot_some S r u e = rw e refl
 
@@ -63,9 +62,9 @@ module _ (F T : Bytes) (R : Round) (n left : ℕ) (d : Def) (m : coded.Member) (
     unfolding after ret
     slot_nothing t v' e x S k u τ h = rw (slot_some S r u (eq-eqb (row T r).kind Struct e)) (go (aims r S u) (x.says S k u (τ ++ zeros 8) (rep_push S R n 8 h room)))
       where
-        go : (o : Out (Option ℕ)) → Meets S R n (λ (y : Option ℕ). τ ++ zeros 8) (λ o x. o ≡ x) o (gives none t) v'
-            → Made S R n τ (after o (λ o. ret (some (put_pointer (zeros 8) 0 (or_value o 0))))) t v'
-        go (done o z) y = rw y.1 (record { state = z; bytes = zeros 8; is = ap (λ (b : Bytes). done (some b) z) no_pointer; rep = y.0 })
+        go : (o : Out (Option ℕ)) → Meets S R n (λ (y : Option ℕ). τ ++ zeros 8) (λ o x. o ≡ x) o (gives None t) v'
+            → Made S R n τ (after o (λ o. ret (Some (put_pointer (zeros 8) 0 (unwrap_or o 0))))) t v'
+        go (done o z) y = rw y.1 (record { state = z; bytes = zeros 8; is = ap (λ (b : Bytes). done (Some b) z) no_pointer; rep = y.0 })
         go (stop j es) y = absurd y
 
     slot_at : (t : Progress) (v' : Bytes) (a : ℕ) → (row T r).kind ≡ 21 → t.top ≡ q.top + 8 → Points (Of F) R n (with_top q (q.top + 8)) v (aims r) (P.At a t) v'
@@ -73,8 +72,8 @@ module _ (F T : Bytes) (R : Round) (n left : ℕ) (d : Def) (m : coded.Member) (
     unfolding after ret put_pointer
     slot_at t v' a e top x S k u τ h = rw (slot_some S r u (eq-eqb (row T r).kind Struct e)) (go (aims r S u) (x.says S k u (τ ++ zeros 8) (rep_push S R n 8 h room)))
       where
-        go : (o : Out (Option ℕ)) → Meets S R n (λ (y : Option ℕ). τ ++ zeros 8) (λ o x. o ≡ x) o (gives (some a) t) v'
-            → Made S R n τ (after o (λ o. ret (some (put_pointer (zeros 8) 0 (or_value o 0))))) t (over v' q.top (bytes_of 4 a))
+        go : (o : Out (Option ℕ)) → Meets S R n (λ (y : Option ℕ). τ ++ zeros 8) (λ o x. o ≡ x) o (gives (Some a) t) v'
+            → Made S R n τ (after o (λ o. ret (Some (put_pointer (zeros 8) 0 (unwrap_or o 0))))) t (over v' q.top (bytes_of 4 a))
         go (done o z) y =
             rw y.1
             (record {
@@ -91,7 +90,7 @@ module _ (F T : Bytes) (R : Round) (n left : ℕ) (d : Def) (m : coded.Member) (
     slot_refused t v' a e x S k u τ h = rw (slot_some S r u (eq-eqb (row T r).kind Struct e)) (go (aims r S u) (x.says S k u (τ ++ zeros 8) (rep_push S R n 8 h room)))
       where
         go : (o : Out (Option ℕ)) → Meets S R n (λ (y : Option ℕ). τ ++ zeros 8) (λ o (x : Option ℕ). o ≡ x) o (refuses a t) v'
-            → Halts S R n a (after o (λ o. ret (some (put_pointer (zeros 8) 0 (or_value o 0))))) t v'
+            → Halts S R n a (after o (λ o. ret (Some (put_pointer (zeros 8) 0 (unwrap_or o 0))))) t v'
         go (done o z) y = absurd y
         go (stop j es) y = record { events = es; is = ap (λ (b : ℕ). stop b es) (sym y.0); stopped = y.1 }
 

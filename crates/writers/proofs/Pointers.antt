@@ -1,8 +1,8 @@
 -- Structures by pointer. No line here names a place of the code. Assumes nothing.
+use Rattle.std.specs.Prelude.{Option, Some, None}
 use mathlib.Core.Path.{◌≡◌, refl, sym, ap, subst, ◌∙◌}
 use mathlib.Core.Bool.{Bool, true, false}
 use mathlib.Core.List.{◌++◌}
-use mathlib.Core.Option.{Option, none, some}
 use Prim.Native.Nat.{ℕ, ◌+◌, ◌-◌, ◌≤◌}
 use native.Mathlib.Omega.{arith}
 use lib.Dec.{leb, eqb}
@@ -10,13 +10,10 @@ use lib.ListN.{length, length-append}
 use borrow.Author.Tests.{leb-true, eq-eqb, ne_eqb}
 use Rattle.numbers.specs.Words.{Bytes, bytes_of}
 use Rattle.numbers.proofs.Bytes.{length_bytes}
-use Rattle.value.specs.Rows.{Row, Fields, fields_of, Struct, row, value_row}
+use Rattle.value.specs.Rows.{Row, Fields, fields_of, Struct, row, value_row, Value}
 use Rattle.schema.specs.Defs
 use Rattle.schema.specs.Defs.{Schema, StructDef, winning}
 use Rattle.definitions.specs.declared.members.Member as coded
-use Rattle.value.specs.Answer.{value_is}
-use Rattle.value.specs.declared.Found.{Found}
-use Rattle.value.specs.declared.Found.TheVariants as found
 use Rattle.layout.specs.State.{State, Env, M, Out, done, stop, after, bind, ret, if_m, opt_m, remark, with_remark, add_item}
 use Rattle.layout.specs.Members.{says, need, put_pointer}
 use Rattle.layout.specs.Runs.{Writer, own_type, pointed}
@@ -31,8 +28,6 @@ use Rattle.area.proofs.Over.{length_over}
 use Rattle.area.proofs.Reps.{rep_put}
 use Rattle.cells.specs.declared.defs.Def.{Def}
 use Rattle.cells.specs.Names.{def_of, member_of}
-use Rattle.members.specs.declared.Looked.{Looked}
-use Rattle.members.specs.declared.Looked.TheVariants as L
 use Rattle.members.specs.declared.Wrote.{Wrote}
 use Rattle.members.specs.declared.Wrote.TheVariants.{Done, Refused}
 use Rattle.members.specs.Names.{looked_is}
@@ -46,13 +41,13 @@ use Rattle.writers.specs.Posts.{Of, Named, deeper, Started, Pushed, Pushes, poin
 use Rattle.writers.proofs.Inlines.{pushed_done}
 
 -- a structure by pointer without its definition, and with it
-pointed_none : (E : Env) (w : Writer) (d : StructDef) (e : Defs.Member) (ref : ℕ) (v : Row) (s : State) → E.defs.struct (own_type E v ref) ≡ none → own_type E v ref ≡ ref
-    → pointed E w d e ref v s ≡ done none (with_remark (record { kind = 4; structure = d.name; member = e.name; detail = ref }) s)
+pointed_none : (E : Env) (w : Writer) (d : StructDef) (e : Defs.Member) (ref : ℕ) (v : Row) (s : State) → E.defs.struct (own_type E v ref) ≡ None → own_type E v ref ≡ ref
+    → pointed E w d e ref v s ≡ done None (with_remark (record { kind = 4; structure = d.name; member = e.name; detail = ref }) s)
 unfolding pointed opt_m bind after ret says remark
 pointed_none E w d e ref v s h k = rw (h, k) refl
 
-pointed_some : (E : Env) (w : Writer) (d : StructDef) (e : Defs.Member) (ref : ℕ) (v : Row) (s : State) (i : StructDef) → E.defs.struct (own_type E v ref) ≡ some i
-    → pointed E w d e ref v s ≡ after (w i (fields_of E.sheet v) s) (λ bs. bind (add_item i.name bs) λ x. ret (some x))
+pointed_some : (E : Env) (w : Writer) (d : StructDef) (e : Defs.Member) (ref : ℕ) (v : Row) (s : State) (i : StructDef) → E.defs.struct (own_type E v ref) ≡ Some i
+    → pointed E w d e ref v s ≡ after (w i (fields_of E.sheet v) s) (λ bs. bind (add_item i.name bs) λ x. ret (Some x))
 unfolding pointed opt_m bind
 pointed_some E w d e ref v s i h = rw h refl
 
@@ -61,7 +56,7 @@ module _ (R : Round) (n : ℕ) (p : Progress) (w : Bytes) (T F : Bytes) (left : 
   aimed S = pointed (env_of T S R) (deeper T R left S) (def_of F d) (member_of m) ref v
 
   -- there is no definition
-  pub point_missing : (u : Row) (r : Looked) (q : Progress) (w' : Bytes) → Safe R n p → Open p → u ≡ v → Owned F u ref r → r ≡ L.Missing
+  pub point_missing : (u : Row) (r : Option Def) (q : Progress) (w' : Bytes) → Safe R n p → Open p → u ≡ v → Owned F u ref r → r ≡ None
       → Notes R n p w (remark_on d m 4 ref) q w' → Points (Of F) R n p w aimed (P.Nothing q) w'
   unfolding def_of
   point_missing u r q w' h o z a e t =
@@ -72,17 +67,17 @@ module _ (R : Round) (n : ℕ) (p : Progress) (w : Bytes) (T F : Bytes) (left : 
       }
 
   -- the definition is i
-  owned_named : (r : Looked) (i : Def) → Owned F v ref r → r ≡ L.At i → (S : Schema) → Of F S → Named F i S
+  owned_named : (r : Option Def) (i : Def) → Owned F v ref r → r ≡ Some i → (S : Schema) → Of F S → Named F i S
   owned_named r i a e S k =
-      record { of = k; winner = subst (λ (x : ℕ). (winning S).struct x ≡ some (def_of F i)) (a.name S T R i k e) (a.winner S T R k ∙ ap (looked_is F) e) }
+      record { of = k; winner = subst (λ (x : ℕ). (winning S).struct x ≡ Some (def_of F i)) (a.name S T R i k e) (a.winner S T R k ∙ ap (looked_is F) e) }
 
-  writes : (r : Looked) (i : Def) → Owned F v ref r → r ≡ L.At i → (S : Schema) → Of F S → (s : State)
-      → aimed S s ≡ after (deeper T R left S (def_of F i) (fields_of T v) s) (λ bs. bind (add_item i.name bs) λ x. ret (some x))
+  writes : (r : Option Def) (i : Def) → Owned F v ref r → r ≡ Some i → (S : Schema) → Of F S → (s : State)
+      → aimed S s ≡ after (deeper T R left S (def_of F i) (fields_of T v) s) (λ bs. bind (add_item i.name bs) λ x. ret (Some x))
   unfolding def_of
   writes r i a e S k s = pointed_some (env_of T S R) (deeper T R left S) (def_of F d) (member_of m) ref v s (def_of F i) (a.winner S T R k ∙ ap (looked_is F) e)
 
   -- the structure is refused
-  pub point_refused : (u : Row) (r : Looked) (i : Def) (fs : Fields) (x : Wrote) (k : ℕ) (t : Progress) (w' : Bytes) → u ≡ v → Owned F u ref r → r ≡ L.At i
+  pub point_refused : (u : Row) (r : Option Def) (i : Def) (fs : Fields) (x : Wrote) (k : ℕ) (t : Progress) (w' : Bytes) → u ≡ v → Owned F u ref r → r ≡ Some i
       → fs ≡ fields_of T v → Pushes (Named F i) R n p w i.size (λ S. deeper T R left S (def_of F i) fs) x w' → x ≡ Refused k t
       → Points (Of F) R n p w aimed (P.Refused k t) w'
   point_refused u r i fs x k t w' z a e j b f =
@@ -92,19 +87,19 @@ module _ (R : Round) (n : ℕ) (p : Progress) (w : Bytes) (T F : Bytes) (left : 
         grew = c.grew;
         says = λ S g s σ y. rw (writes r i o e S g s)
             (refused_on S R n (λ bs. σ ++ bs) (λ bs q. length bs ≡ i.size) (λ q. σ) (λ q s. q ≡ s)
-            (deeper T R left S (def_of F i) (fields_of T v) s) (λ bs. bind (add_item i.name bs) λ x. ret (some x)) k t w' (c.says S (owned_named r i o e S g) s σ y));
+            (deeper T R left S (def_of F i) (fields_of T v) s) (λ bs. bind (add_item i.name bs) λ x. ret (Some x)) k t w' (c.says S (owned_named r i o e S g) s σ y));
       }
 
   -- there is no room for it: refusal 10
   unlaid : (i : Def) (t : Progress) (w1 : Bytes) (k : ℕ) (q : Progress) (w2 : Bytes) → Lays R n t w1 i.name i.size (refuses k q) w2 → (S : Schema) (σ : Bytes)
       → (o : Out Bytes) → Meets S R n (λ b. σ ++ b) (λ b x. length b ≡ i.size) o (wrote_is (Done t)) w1
-      → Meets S R n (λ x. σ) (λ x y. x ≡ y) (after o (λ bs. bind (add_item i.name bs) λ x. ret (some x))) (pointed_is (P.Refused k q)) w2
+      → Meets S R n (λ x. σ) (λ x y. x ≡ y) (after o (λ bs. bind (add_item i.name bs) λ x. ret (Some x))) (pointed_is (P.Refused k q)) w2
   unfolding after bind
   unlaid i t w1 k q w2 l S σ (done b s) h =
-      refused_on S R n (λ x. σ) (λ x y. x ≡ y) (λ x. σ) (λ x y. x ≡ y) (add_item i.name b s) (λ x. ret (some x)) k q w2 (l.says S s σ b h.1 h.0)
+      refused_on S R n (λ x. σ) (λ x y. x ≡ y) (λ x. σ) (λ x y. x ≡ y) (add_item i.name b s) (λ x. ret (Some x)) k q w2 (l.says S s σ b h.1 h.0)
   unlaid i t w1 k q w2 l S σ (stop e es) h = absurd h
 
-  pub point_unlaid : (u : Row) (r : Looked) (i : Def) (fs : Fields) (x : Wrote) (t : Progress) (w1 : Bytes) (N : ℕ) (y : Laid) (k : ℕ) (q : Progress) (w2 : Bytes) → u ≡ v → Owned F u ref r → r ≡ L.At i
+  pub point_unlaid : (u : Row) (r : Option Def) (i : Def) (fs : Fields) (x : Wrote) (t : Progress) (w1 : Bytes) (N : ℕ) (y : Laid) (k : ℕ) (q : Progress) (w2 : Bytes) → u ≡ v → Owned F u ref r → r ≡ Some i
       → fs ≡ fields_of T v → Pushes (Named F i) R n p w i.size (λ S. deeper T R left S (def_of F i) fs) x w1 → x ≡ Done t
       → N ≡ n → Lays R N t w1 i.name i.size (laid_is y) w2 → y ≡ A.Refused k q → Points (Of F) R n p w aimed (P.Refused k q) w2
   point_unlaid u r i fs x t w1 N y k q w2 z a e j b f eq l g =
@@ -144,19 +139,19 @@ module _ (R : Round) (n : ℕ) (p : Progress) (w : Bytes) (T F : Bytes) (left : 
 
   -- it is filed
   answered : (S : Schema) (σ : Bytes) (a : ℕ) (q : Progress) (w2 : Bytes) (o : Out ℕ) → Meets S R n (λ x. σ) (λ x y. x ≡ y) o (gives a q) w2
-      → Meets S R n (λ x. σ) (λ x y. x ≡ y) (after o (λ x. ret (some x))) (pointed_is (P.At a q)) w2
+      → Meets S R n (λ x. σ) (λ x y. x ≡ y) (after o (λ x. ret (Some x))) (pointed_is (P.At a q)) w2
   unfolding after ret
-  answered S σ a q w2 (done b s) h = (h.0, ap some h.1)
+  answered S σ a q w2 (done b s) h = (h.0, ap Some h.1)
   answered S σ a q w2 (stop e es) h = absurd h
 
   laid : (i : Def) (t : Progress) (w1 : Bytes) (a : ℕ) (q : Progress) (w2 : Bytes) → Lays R n t w1 i.name i.size (gives a q) w2 → (S : Schema) (σ : Bytes)
       → (o : Out Bytes) → Meets S R n (λ b. σ ++ b) (λ b x. length b ≡ i.size) o (wrote_is (Done t)) w1
-      → Meets S R n (λ x. σ) (λ x y. x ≡ y) (after o (λ bs. bind (add_item i.name bs) λ x. ret (some x))) (pointed_is (P.At a q)) w2
+      → Meets S R n (λ x. σ) (λ x y. x ≡ y) (after o (λ bs. bind (add_item i.name bs) λ x. ret (Some x))) (pointed_is (P.At a q)) w2
   unfolding after bind
   laid i t w1 a q w2 l S σ (done b s) h = answered S σ a q w2 (add_item i.name b s) (l.says S s σ b h.1 h.0)
   laid i t w1 a q w2 l S σ (stop e es) h = absurd h
 
-  pub point_laid : (u : Row) (r : Looked) (i : Def) (fs : Fields) (x : Wrote) (t : Progress) (w1 : Bytes) (N : ℕ) (y : Laid) (a : ℕ) (q : Progress) (w2 : Bytes) → Safe R n p → u ≡ v → Owned F u ref r → r ≡ L.At i
+  pub point_laid : (u : Row) (r : Option Def) (i : Def) (fs : Fields) (x : Wrote) (t : Progress) (w1 : Bytes) (N : ℕ) (y : Laid) (a : ℕ) (q : Progress) (w2 : Bytes) → Safe R n p → u ≡ v → Owned F u ref r → r ≡ Some i
       → fs ≡ fields_of T v → Pushes (Named F i) R n p w i.size (λ S. deeper T R left S (def_of F i) fs) x w1 → x ≡ Done t
       → N ≡ n → Lays R N t w1 i.name i.size (laid_is y) w2 → y ≡ A.At a q → Points (Of F) R n p w aimed (P.At a q) w2
   point_laid u r i fs x t w1 N y a q w2 h z ow e j b f eq l g =
@@ -186,9 +181,9 @@ pointed_is_law : (E : Env) (w : Writer) (d : StructDef) (e : Defs.Member) (v : R
 unfolding pointed_member need if_m bind
 pointed_is_law E w d e v buf s f h = rw (f, h) refl
 
-module _ (R : Round) (n : ℕ) (p : Progress) (w : Bytes) (T F : Bytes) (left : ℕ) (d : Def) (m : coded.Member) (f : Found) where
+module _ (R : Round) (n : ℕ) (p : Progress) (w : Bytes) (T F : Bytes) (left : ℕ) (d : Def) (m : coded.Member) (f : Value) where
   abbrev pointing : Schema → Bytes → M Bytes
-  pointing S buf = pointed_member (env_of T S R) (deeper T R left S) (def_of F d) (member_of m) (value_row T (value_is f)) buf
+  pointing S buf = pointed_member (env_of T S R) (deeper T R left S) (def_of F d) (member_of m) (value_row T f) buf
 
   -- it does not fit
   pub pointed_long : (b : Bool) (q : Progress) (w' : Bytes) → Safe R n p → Open p → b ≡ leb (m.offset + 8) d.size → b ≡ false → Notes R n p w (remark_on d m 1 d.size) q w'
@@ -196,39 +191,39 @@ module _ (R : Round) (n : ℕ) (p : Progress) (w : Bytes) (T F : Bytes) (left : 
   unfolding pointed_member
   pointed_long b q w' h o e g t =
       too_long R n p w (Of F) F d m 8
-      (λ S buf. if_m (eqb (value_row T (value_is f)).kind Struct)
-      (bind (pointed (env_of T S R) (deeper T R left S) (def_of F d) (member_of m) m.reference (value_row T (value_is f))) λ o. opt_m o (ret buf) λ x. ret (put_pointer buf m.offset x))
+      (λ S buf. if_m (eqb (value_row T f).kind Struct)
+      (bind (pointed (env_of T S R) (deeper T R left S) (def_of F d) (member_of m) m.reference (value_row T f)) λ o. opt_m o (ret buf) λ x. ret (put_pointer buf m.offset x))
       (ret buf)) q w' h o (sym e ∙ g) t
 
   fitted : (b : Bool) → b ≡ leb (m.offset + 8) d.size → b ≡ true → leb (m.offset + 8) (def_of F d).size ≡ true
   fitted b e g = rw (def_size F d) (sym e ∙ g)
 
   -- no Struct
-  idle : (b : Bool) → Safe R n p → b ≡ leb (m.offset + 8) d.size → b ≡ true → eqb (value_row T (value_is f)).kind Struct ≡ false
+  idle : (b : Bool) → Safe R n p → b ≡ leb (m.offset + 8) d.size → b ≡ true → eqb (value_row T f).kind Struct ≡ false
       → Fills (Of F) R n p w d.size pointing (Done p) w
   idle b h e g k =
       fills_as R n p w (Of F) (Of F) d.size pointing (λ S buf. ret buf) (Done p) w
-      (λ S u. (u, λ buf s. ap (λ (a : M Bytes). a s) (pointed_not (env_of T S R) (deeper T R left S) (def_of F d) (member_of m) (value_row T (value_is f)) buf (fitted b e g) k)))
+      (λ S u. (u, λ buf s. ap (λ (a : M Bytes). a s) (pointed_not (env_of T S R) (deeper T R left S) (def_of F d) (member_of m) (value_row T f) buf (fitted b e g) k)))
       (stays R n p w (Of F) d.size h)
 
-  pub pointed_absent : (b : Bool) → Safe R n p → b ≡ leb (m.offset + 8) d.size → b ≡ true → f ≡ found.Missing → Fills (Of F) R n p w d.size pointing (Done p) w
-  pointed_absent b h e g k = idle b h e g (ap (λ (x : Found). eqb (value_row T (value_is x)).kind Struct) k)
+  pub pointed_absent : (b : Bool) → Safe R n p → b ≡ leb (m.offset + 8) d.size → b ≡ true → f ≡ None → Fills (Of F) R n p w d.size pointing (Done p) w
+  pointed_absent b h e g k = idle b h e g (ap (λ (x : Value). eqb (value_row T x).kind Struct) k)
 
-  pub pointed_other : (b : Bool) (r : ℕ) (v : Row) → Safe R n p → b ≡ leb (m.offset + 8) d.size → b ≡ true → f ≡ found.At r → v ≡ row T r → (v.kind ≡ 21 → ⊥)
+  pub pointed_other : (b : Bool) (r : ℕ) (v : Row) → Safe R n p → b ≡ leb (m.offset + 8) d.size → b ≡ true → f ≡ Some r → v ≡ row T r → (v.kind ≡ 21 → ⊥)
       → Fills (Of F) R n p w d.size pointing (Done p) w
-  pointed_other b r v h e g k j z = idle b h e g (ap (λ (x : Found). eqb (value_row T (value_is x)).kind Struct) k ∙ ap (λ (x : Row). eqb x.kind 21) (sym j) ∙ ne_eqb v.kind 21 z)
+  pointed_other b r v h e g k j z = idle b h e g (ap (λ (x : Value). eqb (value_row T x).kind Struct) k ∙ ap (λ (x : Row). eqb x.kind 21) (sym j) ∙ ne_eqb v.kind 21 z)
 
   -- a Struct
   abbrev aims : ℕ → Schema → M (Option ℕ)
   aims r S = pointed (env_of T S R) (deeper T R left S) (def_of F d) (member_of m) m.reference (row T r)
 
-  busy : (b : Bool) (r : ℕ) (v : Row) → b ≡ leb (m.offset + 8) d.size → b ≡ true → f ≡ found.At r → v ≡ row T r → v.kind ≡ 21 → (S : Schema) (buf : Bytes) (s : State)
+  busy : (b : Bool) (r : ℕ) (v : Row) → b ≡ leb (m.offset + 8) d.size → b ≡ true → f ≡ Some r → v ≡ row T r → v.kind ≡ 21 → (S : Schema) (buf : Bytes) (s : State)
       → pointing S buf s ≡ after (aims r S s) (λ o. opt_m o (ret buf) λ x. ret (put_pointer buf m.offset x))
   busy b r v e g k j z S buf s =
-      ap (λ (x : Found). pointed_member (env_of T S R) (deeper T R left S) (def_of F d) (member_of m) (value_row T (value_is x)) buf s) k
+      ap (λ (x : Value). pointed_member (env_of T S R) (deeper T R left S) (def_of F d) (member_of m) (value_row T x) buf s) k
       ∙ pointed_is_law (env_of T S R) (deeper T R left S) (def_of F d) (member_of m) (row T r) buf s (fitted b e g) (ap (λ (x : Row). eqb x.kind 21) (sym j) ∙ eq-eqb v.kind 21 z)
 
-  pub pointed_refused : (b : Bool) (r : ℕ) (v : Row) (x : Pointed) (k : ℕ) (t : Progress) (w' : Bytes) → b ≡ leb (m.offset + 8) d.size → b ≡ true → f ≡ found.At r → v ≡ row T r
+  pub pointed_refused : (b : Bool) (r : ℕ) (v : Row) (x : Pointed) (k : ℕ) (t : Progress) (w' : Bytes) → b ≡ leb (m.offset + 8) d.size → b ≡ true → f ≡ Some r → v ≡ row T r
       → v.kind ≡ 21 → Points (Of F) R n p w (aims r) x w' → x ≡ P.Refused k t → Fills (Of F) R n p w d.size pointing (Refused k t) w'
   pointed_refused b r v x k t w' e g i j z a q =
       let c : Points (Of F) R n p w (aims r) (P.Refused k t) w' = rw (← q) a in
@@ -244,11 +239,11 @@ module _ (R : Round) (n : ℕ) (p : Progress) (w : Bytes) (T F : Bytes) (left : 
       → Meets S R n (λ x. σ ++ buf) (λ x y. x ≡ y) o (pointed_is (P.Nothing t)) w'
       → Meets S R n (λ b. σ ++ b) (λ b x. length b ≡ d.size) (after o (λ o. opt_m o (ret buf) λ x. ret (put_pointer buf m.offset x))) (wrote_is (Done t)) w'
   unfolding after opt_m ret
-  unaimed t w' S σ buf l (done none s) h = (h.0, l)
-  unaimed t w' S σ buf l (done (some x) s) h = let z : ◌≡◌ {A = ℕ} 0 1 = cc in absurd (omega arith)
+  unaimed t w' S σ buf l (done None s) h = (h.0, l)
+  unaimed t w' S σ buf l (done (Some x) s) h = let z : ◌≡◌ {A = ℕ} 0 1 = cc in absurd (omega arith)
   unaimed t w' S σ buf l (stop k es) h = absurd h
 
-  pub pointed_nothing : (b : Bool) (r : ℕ) (v : Row) (x : Pointed) (t : Progress) (w' : Bytes) → b ≡ leb (m.offset + 8) d.size → b ≡ true → f ≡ found.At r → v ≡ row T r
+  pub pointed_nothing : (b : Bool) (r : ℕ) (v : Row) (x : Pointed) (t : Progress) (w' : Bytes) → b ≡ leb (m.offset + 8) d.size → b ≡ true → f ≡ Some r → v ≡ row T r
       → v.kind ≡ 21 → Points (Of F) R n p w (aims r) x w' → x ≡ P.Nothing t → Fills (Of F) R n p w d.size pointing (Done t) w'
   pointed_nothing b r v x t w' e g i j z a q =
       let c : Points (Of F) R n p w (aims r) (P.Nothing t) w' = rw (← q) a in
@@ -263,8 +258,8 @@ module _ (R : Round) (n : ℕ) (p : Progress) (w : Bytes) (T F : Bytes) (left : 
       → Meets S R n (λ x. σ ++ buf) (λ x y. x ≡ y) o (pointed_is (P.At a t)) w1
       → Meets S R n (λ b. σ ++ b) (λ b x. length b ≡ d.size) (after o (λ o. opt_m o (ret buf) λ x. ret (put_pointer buf m.offset x))) (wrote_is (Done t)) (put_pointer w1 at a)
   unfolding after opt_m ret put_pointer
-  put_in a t w1 at g fi lo e S σ buf l z (done none s) h = let y : ◌≡◌ {A = ℕ} 0 1 = cc in absurd (omega arith)
-  put_in a t w1 at g fi lo e S σ buf l z (done (some x) s) h =
+  put_in a t w1 at g fi lo e S σ buf l z (done None s) h = let y : ◌≡◌ {A = ℕ} 0 1 = cc in absurd (omega arith)
+  put_in a t w1 at g fi lo e S σ buf l z (done (Some x) s) h =
       let same : x ≡ a = cc in
       let la : length (σ ++ buf) ≡ length σ + length buf = length-append σ buf in
       let lb : length (bytes_of 4 a) ≡ 4 = length_bytes 4 a in
@@ -273,7 +268,7 @@ module _ (R : Round) (n : ℕ) (p : Progress) (w : Bytes) (T F : Bytes) (left : 
   put_in a t w1 at g fi lo e S σ buf l z (stop k es) h = absurd h
 
   pub pointed_at : (b : Bool) (r : ℕ) (v : Row) (x : Pointed) (a : ℕ) (t : Progress) (w1 w2 : Bytes) → Buffer R p d.size → b ≡ leb (m.offset + 8) d.size → b ≡ true
-      → f ≡ found.At r → v ≡ row T r → v.kind ≡ 21 → Points (Of F) R n p w (aims r) x w1 → x ≡ P.At a t → w2 ≡ put_pointer w1 (p.top - d.size + m.offset) a
+      → f ≡ Some r → v ≡ row T r → v.kind ≡ 21 → Points (Of F) R n p w (aims r) x w1 → x ≡ P.At a t → w2 ≡ put_pointer w1 (p.top - d.size + m.offset) a
       → Fills (Of F) R n p w d.size pointing (Done t) w2
   pointed_at b r v x a t w1 w2 bu e g i j z o q y =
       let c : Points (Of F) R n p w (aims r) (P.At a t) w1 = rw (← q) o in

@@ -1,8 +1,8 @@
 -- A structure is started, and its members follow. Assumes nothing.
+use Rattle.std.specs.Prelude.{Some}
 use mathlib.Core.Path.{◌≡◌, refl, ap, subst, ◌∙◌}
 use mathlib.Core.Bool.{true, false}
 use mathlib.Core.List.{List, [], ◌∷◌, ◌++◌}
-use mathlib.Core.Option.{some}
 use Prim.Native.Nat.{ℕ, zero, suc, ◌+◌, ◌-◌, ◌≤◌, ◌<◌}
 use native.Mathlib.Omega.{arith}
 use borrow.Author.Tests.{ne_eqb}
@@ -22,7 +22,7 @@ use Rattle.area.specs.Area.{Rep, started_in}
 use Rattle.area.specs.Posts.{gives, refuses, Meets}
 
 -- from the i-th on
-drop_nth : {A : Type 0} (l : List A) (i : ℕ) (x : A) → nth l i ≡ some x → drop i l ≡ x ∷ drop (i + 1) l
+drop_nth : {A : Type 0} (l : List A) (i : ℕ) (x : A) → nth l i ≡ Some x → drop i l ≡ x ∷ drop (i + 1) l
 unfolding nth
 drop_nth [] i x e = absurd (let z : ◌≡◌ {A = ℕ} 0 1 = cc in omega arith)
 drop_nth (a ∷ l) zero x e = let q : a ≡ x = cc in ap (λ y. y ∷ l) q
@@ -43,7 +43,7 @@ module _ (S : Schema) (R : Round) (n : ℕ) (E : Env) (w : Writer) (d : StructDe
   begin q work l r = record { state = s; buf = zeros d.size; len = l; rep = r; rest = refl }
 
   -- ARRAYINFO is skipped
-  pub skip : (q : Progress) (work : Bytes) (k : ℕ) (e : Member) → nth d.members k ≡ some e → eqb e.name ARRAYINFO ≡ true
+  pub skip : (q : Progress) (work : Bytes) (k : ℕ) (e : Member) → nth d.members k ≡ Some e → eqb e.name ARRAYINFO ≡ true
       → Going S R n E w d fs σ s q work k → Going S R n E w d fs σ s q work (k + 1)
   unfolding members bind if_m ret after
   skip q work k e h i g =
@@ -59,7 +59,7 @@ module _ (S : Schema) (R : Round) (n : ℕ) (E : Env) (w : Writer) (d : StructDe
       skipped x y = rw (drop_nth d.members k e h, i) refl
 
   -- a member is written
-  pub turn : (q t : Progress) (work work' : Bytes) (k : ℕ) (e : Member) (v : Value) → nth d.members k ≡ some e → eqb e.name ARRAYINFO ≡ false → field_named e.name fs ≡ v
+  pub turn : (q t : Progress) (work work' : Bytes) (k : ℕ) (e : Member) (v : Value) → nth d.members k ≡ Some e → eqb e.name ARRAYINFO ≡ false → field_named e.name fs ≡ v
       → (g : Going S R n E w d fs σ s q work k)
       → Meets S R n (λ b. σ ++ b) (λ b (x : Unit {0}). length b ≡ d.size) (member E w d e (kind_of e.type) v g.buf g.state) (gives tt t) work'
       → Going S R n E w d fs σ s t work' (k + 1)
@@ -75,7 +75,7 @@ module _ (S : Schema) (R : Round) (n : ℕ) (E : Env) (w : Writer) (d : StructDe
       go (stop a es) f z = absurd z
 
   -- a member is refused
-  pub turn_refused : (q t : Progress) (work work' : Bytes) (k a : ℕ) (e : Member) (v : Value) → nth d.members k ≡ some e → eqb e.name ARRAYINFO ≡ false → field_named e.name fs ≡ v
+  pub turn_refused : (q t : Progress) (work work' : Bytes) (k a : ℕ) (e : Member) (v : Value) → nth d.members k ≡ Some e → eqb e.name ARRAYINFO ≡ false → field_named e.name fs ≡ v
       → (g : Going S R n E w d fs σ s q work k)
       → Meets S R n (λ b. σ ++ b) (λ b (x : Unit {0}). length b ≡ d.size) (member E w d e (kind_of e.type) v g.buf g.state) (refuses a t) work'
       → Meets S R n (λ b. σ ++ b) (λ b (x : Unit {0}). length b ≡ d.size) (members E w d fs d.members (zeros d.size) s) (refuses a t) work'

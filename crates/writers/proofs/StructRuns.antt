@@ -1,8 +1,8 @@
 -- A run of structures, or a map's pairs, element by element. Assumes nothing.
+use Rattle.std.specs.Prelude.{Option, Some}
 use mathlib.Core.Path.{◌≡◌, refl, sym, ap}
 use mathlib.Core.Bool.{Bool, true, false, not, ◌||◌}
 use mathlib.Core.List.{◌++◌}
-use mathlib.Core.Option.{Option, some}
 use Prim.Native.Nat.{ℕ, zero, suc, ◌+◌, ◌*◌, ◌≤◌, ◌<◌}
 use native.Mathlib.Omega.{arith}
 use lib.Dec.{eqb}
@@ -50,14 +50,14 @@ pair_ith r (suc n) (suc i) h =
 
 -- a structure that was pushed is an element
 pushed_made : (S : Schema) (R : Round) (n size : ℕ) (τ : Bytes) (o : Out Bytes) (x : Progress) (v : Bytes)
-    → Meets S R n (λ b. τ ++ b) (λ b (y : Unit {0}). length b ≡ size) o (gives tt x) v → Made S R n τ (after o (λ bs. ret (some bs))) x v
+    → Meets S R n (λ b. τ ++ b) (λ b (y : Unit {0}). length b ≡ size) o (gives tt x) v → Made S R n τ (after o (λ bs. ret (Some bs))) x v
 unfolding after ret
 pushed_made S R n size τ (done b t) x v m = record { state = t; bytes = b; is = refl; rep = m.0 }
 pushed_made S R n size τ (stop k es) x v m = absurd m
 
 -- one that was refused ends the run
 pushed_halts : (S : Schema) (R : Round) (n size k : ℕ) (τ : Bytes) (o : Out Bytes) (x : Progress) (v : Bytes)
-    → Meets S R n (λ b. τ ++ b) (λ b (y : Unit {0}). length b ≡ size) o (refuses k x) v → Halts S R n k (after o (λ (bs : Bytes). ret (some bs))) x v
+    → Meets S R n (λ b. τ ++ b) (λ b (y : Unit {0}). length b ≡ size) o (refuses k x) v → Halts S R n k (after o (λ (bs : Bytes). ret (Some bs))) x v
 unfolding after ret
 pushed_halts S R n size k τ (done b t) x v m = absurd m
 pushed_halts S R n size k τ (stop j es) x v m = record { events = es; is = ap (λ (a : ℕ). stop a es) (sym m.0); stopped = m.1 }
@@ -115,7 +115,7 @@ module _ (F T : Bytes) (R : Round) (n left : ℕ) (d : Def) (m : coded.Member) (
   at_row false u = with_remark (remark_on d m 9 0) u
 
   row_is_law : (S : Schema) (r : ℕ) (u : State) (b : Bool) → (eqb (row T r).kind Struct || eqb (row T r).kind Null) ≡ b
-      → row_element S r u ≡ after (deeper T R left S (def_of F i) (fields_of T (row T r)) (at_row b u)) (λ bs. ret (some bs))
+      → row_element S r u ≡ after (deeper T R left S (def_of F i) (fields_of T (row T r)) (at_row b u)) (λ bs. ret (Some bs))
   unfolding struct_element bind if_m ret after says remark def_of
   row_is_law S r u true e = rw e refl
   row_is_law S r u false e = rw e refl

@@ -1,18 +1,16 @@
 -- A structure from its start to its end: what `write_struct` has at each of its places. Assumes nothing.
+use Rattle.std.specs.Prelude.{Some, is_some}
 use mathlib.Core.Path.{◌≡◌, refl, sym, ap}
 use mathlib.Core.Bool.{true}
 use mathlib.Core.List.{◌++◌}
-use mathlib.Core.Option.{none, some}
 use Prim.Native.Nat.{ℕ, ◌+◌, ◌-◌, ◌*◌, ◌≤◌, ◌<◌}
 use native.Mathlib.Omega.{arith}
 use borrow.Author.Tests.{leb-true, eq-eqb, ne_eqb}
 use lib.Dec.{leb}
 use lib.ListN.{length-replicate}
 use Rattle.numbers.specs.Words.{Bytes, zeros}
-use Rattle.numbers.specs.Result.{is_some, nth}
+use Rattle.numbers.specs.Result.{nth}
 use Rattle.value.specs.Rows.{Value, Fields, field_named}
-use Rattle.value.specs.Answer.{found_is, value_is}
-use Rattle.value.specs.declared.Found.{Found}
 use Rattle.schema.specs.Defs.{Schema, winning}
 use Rattle.definitions.specs.declared.members.Member as coded
 use Rattle.layout.specs.State.{State, with_charge}
@@ -115,7 +113,7 @@ writing_begin F T R n left d fs p w q w' safe e =
 
 module _ (F T : Bytes) (R : Round) (n left : ℕ) (d : Def) (fs : Fields) (q₀ : Progress) (w₀ : Bytes) (q : Progress) (w : Bytes) (k : ℕ) (on : Writing F T R n left d fs q₀ w₀ q w k) where
   -- the next is ARRAYINFO
-  pub writing_skip : (m : coded.Member) → k < d.count → nth (def_of F d).members k ≡ some (member_of m) → m.name ≡ 0x100 → Writing F T R n left d fs q₀ w₀ q w (k + 1)
+  pub writing_skip : (m : coded.Member) → k < d.count → nth (def_of F d).members k ≡ Some (member_of m) → m.name ≡ 0x100 → Writing F T R n left d fs q₀ w₀ q w (k + 1)
   writing_skip m h e f =
       record {
         few = omega arith;
@@ -133,17 +131,13 @@ module _ (F T : Bytes) (R : Round) (n left : ℕ) (d : Def) (fs : Fields) (q₀ 
   pub writing_low : stack_at R + d.size ≤ q.top
   writing_low = omega (arith, on.low, on.grown.top)
 
-  module _ (m : coded.Member) (v : Found) (h : k < d.count) (e : nth (def_of F d).members k ≡ some (member_of m)) (f : m.name ≡ 0x100 → ⊥) (g : v ≡ found_is (field_named m.name fs)) where
-    found : field_named m.name fs ≡ value_is v
-    found = rw g (there (field_named m.name fs))
-      where
-        there : (x : Value) → x ≡ value_is (found_is x)
-        there none = refl
-        there (some r) = refl
+  module _ (m : coded.Member) (v : Value) (h : k < d.count) (e : nth (def_of F d).members k ≡ Some (member_of m)) (f : m.name ≡ 0x100 → ⊥) (g : v ≡ field_named m.name fs) where
+    found : field_named m.name fs ≡ v
+    found = sym g
 
     -- the next is written
     pub writing_turn : (t : Progress) (w' : Bytes)
-        → Fills (Of F) R n q w d.size (λ S buf. member (env_of T S R) (deeper T R left S) (def_of F d) (member_of m) (kind_of m.kind) (value_is v) buf) (Done t) w'
+        → Fills (Of F) R n q w d.size (λ S buf. member (env_of T S R) (deeper T R left S) (def_of F d) (member_of m) (kind_of m.kind) v buf) (Done t) w'
         → Writing F T R n left d fs q₀ w₀ t w' (k + 1)
     unfolding def_of
     writing_turn t w' x =
@@ -162,14 +156,14 @@ module _ (F T : Bytes) (R : Round) (n left : ℕ) (d : Def) (fs : Fields) (q₀ 
           low = on.low;
           says = λ S a s σ r.
               let o = on.says S a s σ r in
-              turn S R n (env_of T S R) (deeper T R left S) (def_of F d) fs σ s q t w w' k (member_of m) (value_is v) e (ne_eqb m.name ARRAYINFO f) found o
+              turn S R n (env_of T S R) (deeper T R left S) (def_of F d) fs σ s q t w w' k (member_of m) v e (ne_eqb m.name ARRAYINFO f) found o
               (x.says S a.of o.state σ o.buf o.len o.rep);
         }
 
     module _ (p : Progress) (w₁ : Bytes) (up : ℕ) (safe : Safe R n p) (some_left : 0 < up) (less : up - 1 ≡ left) (into : Entered F R n p w₁ d q₀ w₀) where
       -- the next is refused
       pub writing_refused : (a : ℕ) (t : Progress) (w' : Bytes)
-          → Fills (Of F) R n q w d.size (λ S buf. member (env_of T S R) (deeper T R left S) (def_of F d) (member_of m) (kind_of m.kind) (value_is v) buf) (Refused a t) w'
+          → Fills (Of F) R n q w d.size (λ S buf. member (env_of T S R) (deeper T R left S) (def_of F d) (member_of m) (kind_of m.kind) v buf) (Refused a t) w'
           → Pushes (Named F d) R n p w₁ d.size (λ S. deeper T R up S (def_of F d) fs) (Refused a t) w'
       unfolding def_of
       writing_refused a t w' x =
@@ -178,7 +172,7 @@ module _ (F T : Bytes) (R : Round) (n left : ℕ) (d : Def) (fs : Fields) (q₀ 
             says = λ S b s σ r.
                 let o = on.says S b (started_in d.name (with_charge (s.charge + (16 + d.size)) s)) σ (into.says S b s σ r) in
                 rw (one_deeper (env_of T S R) up (def_of F d) fs s some_left, less, started_is (env_of T S R) (deeper T R left S) (def_of F d) fs s (rw (← r.charge) into.paid))
-                (turn_refused S R n (env_of T S R) (deeper T R left S) (def_of F d) fs σ (started_in d.name (with_charge (s.charge + (16 + d.size)) s)) q t w w' k a (member_of m) (value_is v) e
+                (turn_refused S R n (env_of T S R) (deeper T R left S) (def_of F d) fs σ (started_in d.name (with_charge (s.charge + (16 + d.size)) s)) q t w w' k a (member_of m) v e
                 (ne_eqb m.name ARRAYINFO f) found o (x.says S b.of o.state σ o.buf o.len o.rep));
           }
 

@@ -1,6 +1,5 @@
 -- What the contracts say of structures.
-use Rattle.std.specs.Prelude.{ℕ, ◌+◌, ◌*◌, ◌≤◌, ◌≡◌, Bool, cond, ◌++◌, length}
-use Rattle.std.proofs.Math.Option.{Option, none, some}
+use Rattle.std.specs.Prelude.{ℕ, ◌+◌, ◌*◌, ◌≤◌, ◌≡◌, Bool, cond, ◌++◌, length, Option, Some, None}
 use Rattle.numbers.specs.Words.{Bytes}
 use Rattle.numbers.specs.Result.{ok}
 use Rattle.value.specs.Rows.{rows_from}
@@ -29,7 +28,7 @@ Of F S = schema_of F ≡ ok S
 -- .. and d is what its name stands for
 pub record Named (F : Bytes) (d : Def) (S : Schema) : Type 0 where
   pub of : schema_of F ≡ ok S
-  pub winner : (winning S).struct d.name ≡ some (def_of F d)
+  pub winner : (winning S).struct d.name ≡ Some (def_of F d)
 
 -- the writer with `left` depths left
 abbrev pub deeper : Bytes → Round → ℕ → Schema → Writer
@@ -52,8 +51,8 @@ pub record Pushes (known : Schema → Type 0) (R : Round) (n : ℕ) (p : Progres
 
 -- a pointer, none, or a refusal
 abbrev pub pointed_is : Pointed → Ans (Option ℕ)
-pointed_is (P.At x q) = gives (some x) q
-pointed_is (P.Nothing q) = gives none q
+pointed_is (P.At x q) = gives (Some x) q
+pointed_is (P.Nothing q) = gives None q
 pointed_is (P.Refused k q) = refuses k q
 
 abbrev pub Aimed : Round → ℕ → Progress → Pointed → Type 0

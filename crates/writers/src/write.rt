@@ -1,6 +1,5 @@
 // The writers: a structure leads to its members and a member to further structures, inline, by pointer, in runs and in map pairs.
 ghost use Rattle.std.specs.Prelude.{length};
-ghost use Rattle.value.specs.Answer.{value_is};
 ghost use Rattle.value.specs.Rows.{row, rows_from};
 ghost use Rattle.layout.specs.Kinds;
 ghost use Rattle.layout.specs.Members;
@@ -28,9 +27,10 @@ use choices::source::{Source, source_of, value_of};
 use definitions::members::{Member, read_member};
 use members::member::{fits, write_plain, wrong};
 use members::slots::put_pointer;
-use members::{Looked, Wrote, look_up, pay, say};
+use members::{Wrote, look_up, pay, say};
 use runs::Ran;
-use value::{Found, read_row, value_row};
+use value::kind::Kind;
+use value::{read_row, value_row};
 
 mod map;
 mod run;
@@ -102,12 +102,12 @@ fn write_member(
     p: Progress,
     d: Def,
     m: Member,
-    v: Found,
+    v: Option<usize>,
 ) -> Wrote
     requires safe { Safe round (length work.old) p × Open p }
     requires buffer { Buffer round p d.size }
     ensures { Fills (Of schema.now) round (length work.old) p work.old d.size
-        (λ S buf. Write.member (env_of sheet.now S round) (deeper sheet.now round left S) (def_of schema.now d) (member_of m) (Kinds.kind_of m.kind) (value_is v) buf) result work.new }
+        (λ S buf. Write.member (env_of sheet.now S round) (deeper sheet.now round left S) (def_of schema.now d) (member_of m) (Kinds.kind_of m.kind) v buf) result work.new }
 {
     let ty = m.kind;
     match ty {
@@ -129,12 +129,12 @@ fn write_structure(
     p: Progress,
     d: Def,
     m: Member,
-    v: Found,
+    v: Option<usize>,
 ) -> Wrote
     requires safe { Safe round (length work.old) p × Open p }
     requires buffer { Buffer round p d.size }
     ensures { Fills (Of schema.now) round (length work.old) p work.old d.size
-        (λ S buf. Write.struct_member (env_of sheet.now S round) (deeper sheet.now round left S) (def_of schema.now d) (member_of m) (value_is v) buf) result work.new }
+        (λ S buf. Write.struct_member (env_of sheet.now S round) (deeper sheet.now round left S) (def_of schema.now d) (member_of m) v buf) result work.new }
 {
     if !is_struct_value(value_row(sheet, v)) {
         return wrong(work, round, p, d, m, v);
@@ -156,17 +156,17 @@ fn write_inline(
     p: Progress,
     d: Def,
     m: Member,
-    v: Found,
+    v: Option<usize>,
 ) -> Wrote
     requires safe { Safe round (length work.old) p × Open p }
     requires buffer { Buffer round p d.size }
     ensures { Fills (Of schema.now) round (length work.old) p work.old d.size
         (λ S buf. Write.inline_member (env_of sheet.now S round) (deeper sheet.now round left S) (def_of schema.now d) (member_of m)
-        (Members.row_of (env_of sheet.now S round) (value_is v)) buf) result work.new }
+        (Members.row_of (env_of sheet.now S round) v) buf) result work.new }
 {
     match look_up(schema, m.reference) {
-        Looked::Missing => Wrote::Done(say(work, round, p, d, m, 4, m.reference)),
-        Looked::At(i) => {
+        None => Wrote::Done(say(work, round, p, d, m, 4, m.reference)),
+        Some(i) => {
             let size = i.size as usize;
             if !fits(d, m, size) {
                 return Wrote::Done(say(work, round, p, d, m, 1, d.size));
@@ -197,22 +197,22 @@ fn write_pointed(
     p: Progress,
     d: Def,
     m: Member,
-    v: Found,
+    v: Option<usize>,
 ) -> Wrote
     requires safe { Safe round (length work.old) p × Open p }
     requires buffer { Buffer round p d.size }
     ensures { Fills (Of schema.now) round (length work.old) p work.old d.size
         (λ S buf. Write.pointed_member (env_of sheet.now S round) (deeper sheet.now round left S) (def_of schema.now d) (member_of m)
-        (Members.row_of (env_of sheet.now S round) (value_is v)) buf) result work.new }
+        (Members.row_of (env_of sheet.now S round) v) buf) result work.new }
 {
     if !fits(d, m, 8) {
         return Wrote::Done(say(work, round, p, d, m, 1, d.size));
     }
     match v {
-        Found::Missing => Wrote::Done(p),
-        Found::At(r) => {
+        None => Wrote::Done(p),
+        Some(r) => {
             let row = read_row(sheet, r);
-            if row.kind != 21 {
+            if !row.is(Kind::Struct) {
                 return Wrote::Done(p);
             }
             match point_to(sheet, schema, work, round, left, p, d, m, m.reference, r) {
@@ -247,17 +247,8 @@ fn point_to(
         (λ S. Runs.pointed (env_of sheet.now S round) (deeper sheet.now round left S) (def_of schema.now d) (member_of m) reference (row sheet.now r)) result work.new }
 {
     match own_type(schema, read_row(sheet, r), reference) {
-        Looked::Missing => Pointed::Nothing(say(work, round, p, d, m, 4, reference)),
-        Looked::At(i) => match write_struct(
-            sheet,
-            schema,
-            work,
-            round,
-            left,
-            p,
-            i,
-            Source::Row(r),
-        ) {
+        None => Pointed::Nothing(say(work, round, p, d, m, 4, reference)),
+        Some(i) => match write_struct(sheet, schema, work, round, left, p, i, Source::Row(r)) {
             Wrote::Refused(k, t) => Pointed::Refused(k, t),
             Wrote::Done(t) => match lay(work, round, t, i.name, i.size as usize) {
                 Laid::Refused(k, u) => Pointed::Refused(k, u),
@@ -278,12 +269,12 @@ fn write_array(
     p: Progress,
     d: Def,
     m: Member,
-    v: Found,
+    v: Option<usize>,
 ) -> Wrote
     requires safe { Safe round (length work.old) p × Open p }
     requires buffer { Buffer round p d.size }
     ensures { Fills (Of schema.now) round (length work.old) p work.old d.size
-        (λ S buf. Write.array_member (env_of sheet.now S round) (deeper sheet.now round left S) (def_of schema.now d) (member_of m) (value_is v) buf) result work.new }
+        (λ S buf. Write.array_member (env_of sheet.now S round) (deeper sheet.now round left S) (def_of schema.now d) (member_of m) v buf) result work.new }
 {
     match array_info(schema, d, m) {
         Info::Missing => Wrote::Done(say(work, round, p, d, m, 5, 0)),

@@ -2,12 +2,12 @@
 use Rattle.psch.proofs.Bodies.{body_measured, none_measured}
 use Rattle.psch.proofs.body_length.Goals as goal
 
-pub returns-in-At : goal.returns-in-At
-returns-in-At c =
+pub returns-in-Some : goal.returns-in-Some
+returns-in-Some c =
     let a = c.args in
-    body_measured a.schema.now a.enums a.name c.find.result c.find.ensures c.in-At.place c.definition_length.result c.in-At.is c.definition_length.ensures
+    body_measured a.schema.now a.kind a.name c.find.result c.find.ensures.result_value c.in-Some.place c.definition_length.result c.in-Some.is c.definition_length.ensures
 
-pub returns-in-Nothing : goal.returns-in-Nothing
-returns-in-Nothing c =
+pub returns-in-None : goal.returns-in-None
+returns-in-None c =
     let a = c.args in
-    none_measured a.schema.now a.enums a.name c.find.result c.find.ensures c.in-Nothing.is
+    none_measured a.schema.now a.kind a.name c.find.result c.find.ensures.result_value c.in-None.is

@@ -43,7 +43,7 @@ returns-in-Vector c =
 pub returns-in-Text : goal.returns-in-Text
 returns-in-Text c =
     let a = c.args in
-    plain_text a.round (length a.work.now) a.p a.work.now a.sheet.now a.schema.now a.d a.m a.x (rows_from a.first a.n) c.text_run.result c.text_run.new.work (sym c.kind_of.ensures ∙ ap kind_is c.in-Text.is) c.text_run.ensures
+    plain_text a.round (length a.work.now) a.p a.work.now a.sheet.now a.schema.now a.d a.m a.x (rows_from a.first a.n) c.text_run.result c.text_run.new.work (sym c.kind_of.ensures ∙ ap kind_is c.in-Text.is) (c.text_run.ensures a.schema.now)
 
 pub returns-in-Enumeration : goal.returns-in-Enumeration
 returns-in-Enumeration c =

@@ -1,8 +1,8 @@
 -- `sandvurek::numbers_of` meets its contract. Assumes nothing.
 use Rattle.sandvurek.proofs.numbers_of.Goals as goal
 
-pub returns-in-Found : goal.returns-in-Found
-returns-in-Found c = rw c.in-Found.is
+pub returns-in-Some : goal.returns-in-Some
+returns-in-Some c = rw c.in-Some.is
 
-pub returns-in-Nothing : goal.returns-in-Nothing
-returns-in-Nothing c = rw c.in-Nothing.is
+pub returns-in-None : goal.returns-in-None
+returns-in-None c = rw c.in-None.is

@@ -7,4 +7,4 @@ use Rattle.sandvurek.proofs.sandvurek_enum.Goals as goal
 pub returns : goal.returns
 returns c =
     let a = c.args in
-    record { value = (enum_told a.file.now a.name c.numbers_of.result (c.numbers_of.ensures ∙ ap definition_is c.enumeration.ensures.value)).0; enum_is = (enum_told a.file.now a.name c.numbers_of.result (c.numbers_of.ensures ∙ ap definition_is c.enumeration.ensures.value)).1 }
+    record { value = (enum_told a.file.now a.name c.numbers_of.result (c.numbers_of.ensures ∙ ap definition_is c.find_definition.ensures.value)).0; enum_is = (enum_told a.file.now a.name c.numbers_of.result (c.numbers_of.ensures ∙ ap definition_is c.find_definition.ensures.value)).1 }

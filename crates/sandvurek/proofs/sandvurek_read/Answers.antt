@@ -1,9 +1,9 @@
 -- `sandvurek::sandvurek_read` meets its contract. Assumes nothing.
-use Rattle.sandvurek.proofs.Told.{reading_told}
+use Rattle.sandvurek.proofs.Told.{reading_told, reading_refused}
 use Rattle.sandvurek.proofs.sandvurek_read.Goals as goal
 
-pub returns-in-Pso : goal.returns-in-Pso
-returns-in-Pso c = reading_told c.args.file.now c.parse_pso-p.result _ c.parse_pso-p.ensures.value c.in-Pso.is
+pub returns-in-Ok : goal.returns-in-Ok
+returns-in-Ok c = reading_told c.args.file.now c.in-Ok.pso c.in-Ok.ensures.value
 
-pub returns-in-Refused : goal.returns-in-Refused
-returns-in-Refused c = reading_told c.args.file.now c.parse_pso-p.result _ c.parse_pso-p.ensures.value c.in-Refused.is
+pub returns-in-Err : goal.returns-in-Err
+returns-in-Err c = rw c.from.ensures (reading_refused c.args.file.now _ c.in-Err.ensures.value)

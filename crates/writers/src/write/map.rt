@@ -1,6 +1,5 @@
 // Maps: their mark, and the run of their pairs.
 ghost use Rattle.std.specs.Prelude.{◌+◌, ◌*◌, ◌≤◌, ◌<◌, length};
-ghost use Rattle.value.specs.Answer.{value_is};
 ghost use Rattle.value.specs.Rows.{rows_from};
 ghost use Rattle.layout.specs.Members;
 ghost use Rattle.layout.specs.Write;
@@ -17,9 +16,10 @@ use choices::choose::{lay_run, pair_count};
 use definitions::members::Member;
 use members::member::{fits, wrong};
 use members::slots::put_pointer;
-use members::{Looked, Wrote, look_up, say};
+use members::{Wrote, look_up, say};
 use runs::Ran;
-use value::{Found, value_row};
+use value::kind::Kind;
+use value::value_row;
 
 // A map: an empty one still holds 0x01000000.
 #[cycle(write)]
@@ -32,12 +32,12 @@ pub fn write_map(
     p: Progress,
     d: Def,
     m: Member,
-    v: Found,
+    v: Option<usize>,
 ) -> Wrote
     requires safe { Safe round (length work.old) p × Open p }
     requires buffer { Buffer round p d.size }
     ensures { Fills (Of schema.now) round (length work.old) p work.old d.size
-        (λ S buf. Write.map_member (env_of sheet.now S round) (deeper sheet.now round left S) (def_of schema.now d) (member_of m) (value_is v) buf) result work.new }
+        (λ S buf. Write.map_member (env_of sheet.now S round) (deeper sheet.now round left S) (def_of schema.now d) (member_of m) v buf) result work.new }
 {
     if m.subtype != 1 {
         return Wrote::Done(say(work, round, p, d, m, 6, m.subtype as u32));
@@ -46,8 +46,7 @@ pub fn write_map(
         return Wrote::Done(say(work, round, p, d, m, 1, d.size));
     }
     let row = value_row(sheet, v);
-    let kind = row.kind;
-    if (kind != 20) & (kind != 0) {
+    if !row.is(Kind::Map) & !row.is(Kind::Null) {
         return wrong(work, round, p, d, m, v);
     }
     let at = p.top - (d.size as usize) + (m.offset as usize);
@@ -81,10 +80,8 @@ fn pairs(
 {
     let h = reference_at(schema, d, m.reference % 65536);
     match look_up(schema, h) {
-        Looked::Missing => Wrote::Done(say(work, round, p, d, m, 7, h)),
-        Looked::At(i) => match struct_run(
-            sheet, schema, work, round, left, p, d, m, i, first, n, true,
-        ) {
+        None => Wrote::Done(say(work, round, p, d, m, 7, h)),
+        Some(i) => match struct_run(sheet, schema, work, round, left, p, d, m, i, first, n, true) {
             Ran::Refused(k, t) => Wrote::Refused(k, t),
             Ran::Dropped(t) => Wrote::Done(t),
             Ran::Kept(block, t) => {

@@ -15,8 +15,9 @@ use cells::defs::Def;
 use choices::elements::{element_note, element_row, element_source};
 use definitions::members::Member;
 use members::slots::put_pointer;
-use members::{Looked, Wrote, look_up, pay};
+use members::{Wrote, look_up, pay};
 use runs::{Ran, plain_element_run, run_cost, stop_run};
+use value::kind::Kind;
 use value::read_row;
 
 // The n rows from `first` on as elements that x describes.
@@ -57,8 +58,8 @@ pub fn element_run(
         );
     }
     match look_up(schema, x.reference) {
-        Looked::Missing => stop_run(work, round, p, d, m, 8, x.reference),
-        Looked::At(i) => struct_run(
+        None => stop_run(work, round, p, d, m, 8, x.reference),
+        Some(i) => struct_run(
             sheet, schema, work, round, left, p, d, m, i, first, n, false,
         ),
     }
@@ -95,7 +96,7 @@ fn pointer_run(
                 q.top = at + 8;
                 k += 1;
                 let v = read_row(sheet, r);
-                if v.kind != 21 {
+                if !v.is(Kind::Struct) {
                     continue;
                 }
                 match point_to(sheet, schema, work, round, left, q, d, m, reference, r) {

@@ -23,5 +23,5 @@ returns c =
     let a = c.args in
     record {
       few = omega arith;
-      exact = rw (sym c.contains.ensures ∙ c.if-contains.false, lt-leb a.room a.n c.if-room-n.false, c.write.ensures);
+      exact = rw (sym c.contains.ensures ∙ c.if-contains.false, lt-leb a.room a.n c.if-room-n.false, c.write_u32.ensures);
     }

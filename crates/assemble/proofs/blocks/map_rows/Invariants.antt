@@ -1,5 +1,5 @@
 -- `assemble::blocks::map_rows` meets its contract. Assumes nothing.
-use Prim.Native.Nat.{◌+◌, ◌-◌, ◌*◌, ◌≤◌}
+use Prim.Native.Nat.{◌+◌, ◌*◌}
 use mathlib.Core.Path.{◌≡◌}
 use mathlib.Core.List.{List}
 use lib.ListN.{length}
@@ -10,8 +10,5 @@ use Rattle.assemble.proofs.Maps.{Going}
 use Rattle.assemble.proofs.blocks.map_rows.Given as goal
 
 abbrev pub invariant-loop-k : goal.invariant-loop-k
-invariant-loop-k l = (l.k ≤ l.count) × (length l.out ≡ length l.initial.out)
+invariant-loop-k l = (length l.out ≡ length l.initial.out)
     × ((bs : List Block) → Rows l.work l.rows l.count bs → Going block_rows bs l.initial.out l.at l.count l.k l.place (l.rows + 8 * l.k) (l.at + 16 * l.k) l.work l.out)
-
-abbrev pub decreases-loop-k : goal.decreases-loop-k
-decreases-loop-k l = l.count - l.k

@@ -1,12 +1,9 @@
 -- `assemble::file::data_length` meets its contract. Assumes nothing.
 use mathlib.Core.Path.{◌≡◌}
-use Prim.Native.Nat.{◌+◌, ◌-◌, ◌*◌, ◌≤◌}
+use Prim.Native.Nat.{◌+◌, ◌*◌, ◌≤◌}
 use Rattle.assemble.specs.Packed.{lengths_in}
 use Rattle.assemble.proofs.Adding.{left_of}
 use Rattle.assemble.proofs.file.data_length.Given as goal
 
 abbrev pub invariant-loop-k : goal.invariant-loop-k
-invariant-loop-k l = (l.k ≤ l.count) × (l.sum ≤ 4294967296 * l.k) × (l.sum + left_of l.work l.count l.k ≡ lengths_in l.work 0 l.count)
-
-abbrev pub decreases-loop-k : goal.decreases-loop-k
-decreases-loop-k l = l.count - l.k
+invariant-loop-k l = (l.sum ≤ 4294967296 * l.k) × (l.sum + left_of l.work l.count l.k ≡ lengths_in l.work 0 l.count)

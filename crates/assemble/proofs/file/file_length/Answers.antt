@@ -1,7 +1,7 @@
 -- `assemble::file::file_length` meets its contract. Assumes nothing.
 use mathlib.Core.Path.{ap, ◌∙◌}
 use Prim.Native.Nat.{ℕ, ◌+◌, ◌*◌}
-use mathlib.Core.Bool.{true, false}
+use Rattle.schema.specs.declared.kind.Kind.TheVariants.{Structure, Enum}
 use Rattle.area.specs.Rows.{names_in}
 use Rattle.psch.specs.Used.{counted_from}
 use Rattle.assemble.specs.Packed.{lengths_in}
@@ -15,8 +15,8 @@ returns c =
     let d = c.data_length-data in
     let n = c.definitions_length-structs in record {
       value = c.definitions_length.ensures.2
-          ∙ ap (λ (x : ℕ). counted_from a.schema.now true x (names_in a.work.now (65536 + 4 * a.round.entries) a.p.enums))
-          (n.ensures.2 ∙ ap (λ (x : ℕ). counted_from a.schema.now false (16 + x + (16 + 16 * a.p.blocks) + 12) (names_in a.work.now 65536 a.p.structs)) d.ensures.0);
+          ∙ ap (λ (x : ℕ). counted_from a.schema.now Enum x (names_in a.work.now (65536 + 4 * a.round.entries) a.p.enums))
+          (n.ensures.2 ∙ ap (λ (x : ℕ). counted_from a.schema.now Structure (16 + x + (16 + 16 * a.p.blocks) + 12) (names_in a.work.now 65536 a.p.structs)) d.ensures.0);
       counts = λ S s σ pointer H.
           counted a.schema.now a.round a.p a.work.now S s σ c.requires H pointer d.result n.result c.definitions_length.result
           (d.ensures.0 ∙ ap (lengths_in a.work.now 0) H.rep.blocks

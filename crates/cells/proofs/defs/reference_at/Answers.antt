@@ -1,9 +1,10 @@
 -- `cells::defs::reference_at` meets its contract. Assumes nothing.
+use native.Mathlib.Omega.{arith}
 use Rattle.cells.proofs.References.{no_reference, a_reference}
 use Rattle.cells.proofs.defs.reference_at.Goals as goal
 
-pub returns-then-n-i : goal.returns-then-n-i
-returns-then-n-i c = no_reference c.args.schema.now c.args.d c.args.i c.if-n-i.true
+pub returns-then-from-i : goal.returns-then-from-i
+returns-then-from-i c = no_reference c.args.schema.now c.args.d c.args.i (omega (arith, c.if-from-i.true, c.from.ensures))
 
 pub returns : goal.returns
-returns c = a_reference c.args.schema.now c.args.d c.args.i _ c.if-n-i.false c.read_member-m.ensures
+returns c = a_reference c.args.schema.now c.args.d c.args.i _ (omega (arith, c.if-from-i.false, c.from.ensures)) c.read_member.ensures

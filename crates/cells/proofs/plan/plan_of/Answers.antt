@@ -2,21 +2,12 @@
 use mathlib.Core.Path.{◌≡◌, refl, sym, ap}
 use mathlib.Core.Logic.{inl, inr, ⊎_elim}
 use native.Mathlib.Omega.{arith}
-use borrow.Author.Rules.{rules}
 use Rattle.layout.specs.Kinds
 use Rattle.layout.specs.Kinds.{kind_of}
 use Rattle.cells.proofs.Kinding.{one_byte, two_bytes, four_bytes, threes, fours, left_out, no_other_law}
-use Rattle.cells.proofs.Planning.{plan_scalar, plan_text, text_fixed, text_pointed, text_hashed, text_strange, plan_enum, plan_flags, plan_left, plan_other}
+use Rattle.cells.proofs.Planning.{plan_scalar, plan_text, plan_enum, plan_flags, plan_left, plan_other}
 use Rattle.cells.proofs.plan.plan_of.Goals as goal
-use Rattle.cells.proofs.plan.plan_of.Goals.{in_default-sub-via-then-sub-lt7, in_default-sub-via-else-sub-lt7+else-sub-lt9, in-30-1, in_default+else-ty-lt3+then-ty-lt5}
-
-pub overflow_cast-result : goal.overflow_cast-result
-unfolding kind_of
-overflow_cast-result c = search rules
-
-pub overflow_cast-result-in_default : goal.overflow_cast-result-in_default
-unfolding kind_of
-overflow_cast-result-in_default c = search rules
+use Rattle.cells.proofs.plan.plan_of.Goals.{in-16-1, in-30-1, in_default+else-ty-lt3+then-ty-lt5, in_default+else-ty-lt3+else-ty-lt5+else-ty-lt7+then-ty-lt14}
 
 pub returns-in-7 : goal.returns-in-7
 unfolding kind_of
@@ -38,41 +29,20 @@ unfolding kind_of
 returns-in-10 c =
     let a = c.args in plan_scalar a.schema.now a.d a.m _ (fours a.m.kind c.in-10.is) (Kinds.vector 4) _ refl (omega arith, omega arith) refl (omega arith) c.vector-in-10.ensures
 
-pub returns-in-0 : goal.returns-in-0
+pub returns-in-11 : goal.returns-in-11
 unfolding kind_of
-returns-in-0 c =
-    let a = c.args in
-    plan_text a.schema.now a.d a.m _ (ap kind_of (sym c.in-11.is)) _ refl (rw c.fixed.ensures.0 (text_fixed a.schema.now a.d a.m c.in-0.is c.fixed.ensures.1))
-
-pub returns-in-1-to-3 : goal.returns-in-1-to-3
-unfolding kind_of
-returns-in-1-to-3 c =
-    let a = c.args in
-    plan_text a.schema.now a.d a.m _ (ap kind_of (sym c.in-11.is)) _ refl (text_pointed a.schema.now a.d a.m c.in-1-to-3.in_default-own.rest.1 c.in-1-to-3.if-sub-lt4-own.true)
-
-pub returns-in-7-sub : goal.returns-in-7-sub
-unfolding kind_of
-returns-in-7-sub c =
-    let a = c.args in
-    plan_text a.schema.now a.d a.m _ (ap kind_of (sym c.in-11.is)) _ refl (text_hashed a.schema.now a.d a.m c.in-7-sub.if-sub-lt7-own.false c.in-7-sub.if-sub-lt9-own.true)
-
-pub returns-in_default-sub : goal.returns-in_default-sub
-unfolding kind_of
-returns-in_default-sub c =
-    let a = c.args in
-    plan_text a.schema.now a.d a.m _ (ap kind_of (sym c.in-11.is)) _ refl
-    (text_strange a.schema.now a.d a.m (omega arith)
-    (elim c.in_default-sub.branch [ in_default-sub-via-then-sub-lt7 w ↦ inl (omega arith) | in_default-sub-via-else-sub-lt7+else-sub-lt9 w ↦ inr (omega arith) ]))
+returns-in-11 c =
+    let a = c.args in plan_text a.schema.now a.d a.m _ (ap kind_of (sym c.in-11.is)) _ refl (c.text.ensures a.schema.now a.d)
 
 pub returns-in-14 : goal.returns-in-14
 unfolding kind_of
 returns-in-14 c =
-    let a = c.args in plan_enum a.schema.now a.d a.m _ (ap kind_of (sym c.in-14.is)) _ refl c.named_plan.ensures
+    let a = c.args in plan_enum a.schema.now a.d a.m _ (ap kind_of (sym c.in-14.is)) _ _ _ refl c.enum_size-size.ensures.0 c.enum_size-size.ensures.1 c.named-name.ensures
 
 pub returns-in-15 : goal.returns-in-15
 unfolding kind_of
 returns-in-15 c =
-    let a = c.args in plan_flags a.schema.now a.d a.m _ (ap kind_of (sym c.in-15.is)) _ _ refl c.reference_at-h.ensures c.named_plan-in-15.ensures
+    let a = c.args in plan_flags a.schema.now a.d a.m _ (ap kind_of (sym c.in-15.is)) _ _ _ _ refl c.reference_at.ensures c.enum_size-size-in-15.ensures.0 c.enum_size-size-in-15.ensures.1 c.named-name-in-15.ensures
 
 pub returns-in-32 : goal.returns-in-32
 unfolding kind_of
@@ -95,21 +65,22 @@ returns-in_default c =
     let a = c.args in
     let r = c.in_default.in_default-own.rest in
     let l = c.in_default.if-ty-lt14-own.false in
-    plan_other a.schema.now a.d a.m _
+    rw c.from.ensures
+    (plan_other a.schema.now a.d a.m _
     (no_other_law a.m.kind c.in_default.if-ty-lt7-own.false r.0.0.0.0.0.0.0.0.0.1 r.0.0.0.0.0.0.0.0.1 r.0.0.0.0.0.0.0.1 r.0.0.0.0.0.0.1 r.0.0.0.0.0.1 r.0.0.0.0.1
     (λ q. omega (arith, l, q)) (λ q. omega (arith, l, q)) r.0.0.1 r.0.1 r.0.0.0.1 r.1)
-    refl
+    refl)
 
 pub returns-in-12 : goal.returns-in-12
 unfolding kind_of
-returns-in-12 c = let a = c.args in plan_left a.schema.now a.d a.m _ (ap kind_of (sym c.in-12.is)) (inr (inr refl))
-
-pub returns-in-12-2 : goal.returns-in-12-2
-unfolding kind_of
-returns-in-12-2 c =
+returns-in-12 c =
     let a = c.args in
-    ⊎_elim (λ q. plan_left a.schema.now a.d a.m _ (ap kind_of (sym q)) (inl refl)) (λ q. plan_left a.schema.now a.d a.m _ (ap kind_of (sym q)) (inr (inl refl)))
-    (left_out a.m.kind c.in-12.if-ty-lt7-own.false c.in-12.if-ty-lt14-own.true c.in-12.in_default-own.rest.0.0.0.0.0.0.0.0.1 c.in-12.in_default-own.rest.0.0.0.0.0.0.0.1 c.in-12.in_default-own.rest.0.0.0.0.0.0.1 c.in-12.in_default-own.rest.0.0.0.0.0.1 c.in-12.in_default-own.rest.0.0.0.0.1)
+    elim c.in-12-1.branch [
+      | in-16-1 w ↦ let e : a.m.kind ≡ 16 = omega arith in plan_left a.schema.now a.d a.m _ (ap kind_of (sym e)) (inr (inr refl))
+      | in_default+else-ty-lt3+else-ty-lt5+else-ty-lt7+then-ty-lt14 w ↦
+          ⊎_elim (λ q. plan_left a.schema.now a.d a.m _ (ap kind_of (sym q)) (inl refl)) (λ q. plan_left a.schema.now a.d a.m _ (ap kind_of (sym q)) (inr (inl refl)))
+          (left_out a.m.kind (omega arith) (omega arith) (λ q. omega (arith, q)) (λ q. omega (arith, q)) (λ q. omega (arith, q)) (λ q. omega (arith, q)) (λ q. omega (arith, q)))
+    ]
 
 pub returns-in-3 : goal.returns-in-3
 unfolding kind_of

@@ -12,10 +12,10 @@ pub enum_told-1 : goal.enum_told-1
 unfolding fields_of
 enum_told-1 c = search rules
 
-pub returns-in-At : goal.returns-in-At
+pub returns-in-Some : goal.returns-in-Some
 unfolding fields_of
-returns-in-At c = λ T. rw c.in-At.is refl
+returns-in-Some c = λ T. rw c.in-Some.is refl
 
-pub returns-in-Missing : goal.returns-in-Missing
+pub returns-in-None : goal.returns-in-None
 unfolding fields_of
-returns-in-Missing c = λ T. rw c.in-Missing.is refl
+returns-in-None c = λ T. rw c.in-None.is refl

@@ -4,20 +4,19 @@ use Prim.Native.Nat.{◌+◌}
 use native.Mathlib.Omega.{arith}
 use lib.ListN.{length}
 use borrow.Author.Tests.{leb-true}
-use Rattle.value.specs.Answer.{value_is}
 use Rattle.members.proofs.PointerMembers.{text_short, pointer_long, pointer_wrong, pointer_slot}
 use Rattle.members.proofs.member.write_pointer.Goals as goal
 
 pub returns-then-not-fits : goal.returns-then-not-fits
 returns-then-not-fits c =
     let a = c.args in
-    pointer_long a.round (length a.work.now) a.p a.work.now a.sheet.now a.schema.now a.d a.m (value_is a.v) c.say.result c.say.new.work c.requires.safe.0 c.requires.safe.1
+    pointer_long a.round (length a.work.now) a.p a.work.now a.sheet.now a.schema.now a.d a.m a.v c.say.result c.say.new.work c.requires.safe.0 c.requires.safe.1
     (rw (← c.slot_size.ensures.0) (sym c.fits.ensures ∙ c.if-not-fits.true)) c.say.ensures
 
 pub returns-then-not-has_str : goal.returns-then-not-has_str
 returns-then-not-has_str c =
     let a = c.args in
-    pointer_wrong a.round (length a.work.now) a.p a.work.now a.sheet.now a.schema.now a.d a.m (value_is a.v) c.value_row-row.result c.value_row-row.ensures
+    pointer_wrong a.round (length a.work.now) a.p a.work.now a.sheet.now a.schema.now a.d a.m a.v c.value_row-row.result c.value_row-row.ensures
     (rw (← c.slot_size.ensures.0) (sym c.fits.ensures ∙ c.if-not-fits.false)) c.wrong.result c.wrong.new.work
     (sym (c.has_str.ensures a.sheet.now) ∙ c.if-not-has_str.true) (c.wrong.ensures.fills a.schema.now)
 
@@ -30,6 +29,6 @@ text_slot-requires c =
 pub returns : goal.returns
 returns c =
     let a = c.args in
-    pointer_slot a.round (length a.work.now) a.p a.work.now a.sheet.now a.schema.now a.d a.m (value_is a.v) c.value_row-row.result c.value_row-row.ensures
+    pointer_slot a.round (length a.work.now) a.p a.work.now a.sheet.now a.schema.now a.d a.m a.v c.value_row-row.result c.value_row-row.ensures
     (rw (← c.slot_size.ensures.0) (sym c.fits.ensures ∙ c.if-not-fits.false)) c.str_of.result.now c.text_slot.result c.text_slot.new.work
     (sym (c.has_str.ensures a.sheet.now) ∙ c.if-not-has_str.false) c.str_of.ensures c.requires.buffer c.text_slot.ensures

@@ -1,33 +1,22 @@
 -- `rounds::opening::opened` meets its contract. Assumes nothing.
-use mathlib.Core.Path.{ap, ◌∙◌}
-use Rattle.sheet.specs.Answer.{number_of}
-use Rattle.rounds.proofs.Openings.{sheet_bad, sheet_good, opens}
+use Rattle.std.specs.Prelude.{Ok, Err}
+use mathlib.Core.Path.{◌∙◌}
+use Rattle.layout.specs.Build.{sheet_ok}
+use Rattle.schema.proofs.Errors.{passed_on}
+use Rattle.rounds.proofs.Openings.{sheet_is, stops, goes, opens}
+use Rattle.rounds.specs.Merge.{opening_of}
 use Rattle.rounds.proofs.opening.opened.Goals as goal
 
-pub returns-in-Broken : goal.returns-in-Broken
-returns-in-Broken c =
+pub returns-in_err-check_sheet : goal.returns-in_err-check_sheet
+unfolding opening_of
+returns-in_err-check_sheet c =
     let a = c.args in
-    let q = c.check_sheet in
-    let e = sheet_bad a.sheet.now a.schema.now a.work q.result q.ensures 1 (ap number_of c.in-Broken.is) in
-    record { value = e; opens = opens a.sheet.now a.schema.now a.work _ e }
+    let e = c.in_err-check_sheet.field-0.0 in
+    rw (← passed_on _ e c.from_residual.ensures.1)
+    (opens a.sheet.now a.schema.now a.work _ (stops (sheet_ok a.sheet.now) _ _ (sheet_is a.sheet.now (Err e) c.in_err-check_sheet.ensures)))
 
-pub returns-in-Text : goal.returns-in-Text
-returns-in-Text c =
+pub returns : goal.returns
+unfolding opening_of
+returns c =
     let a = c.args in
-    let q = c.check_sheet in
-    let e = sheet_bad a.sheet.now a.schema.now a.work q.result q.ensures 2 (ap number_of c.in-Text.is) in
-    record { value = e; opens = opens a.sheet.now a.schema.now a.work _ e }
-
-pub returns-in-Root : goal.returns-in-Root
-returns-in-Root c =
-    let a = c.args in
-    let q = c.check_sheet in
-    let e = sheet_bad a.sheet.now a.schema.now a.work q.result q.ensures 3 (ap number_of c.in-Root.is) in
-    record { value = e; opens = opens a.sheet.now a.schema.now a.work _ e }
-
-pub returns-in-Good : goal.returns-in-Good
-returns-in-Good c =
-    let a = c.args in
-    let q = c.check_sheet in
-    let e = c.schemed.ensures ∙ sheet_good a.sheet.now a.schema.now a.work q.result q.ensures (ap number_of c.in-Good.is) in
-    record { value = e; opens = opens a.sheet.now a.schema.now a.work _ e }
+    opens a.sheet.now a.schema.now a.work _ (c.schemed.ensures ∙ goes (sheet_ok a.sheet.now) _ tt (sheet_is a.sheet.now (Ok tt) c.in_ok-check_sheet.ensures))

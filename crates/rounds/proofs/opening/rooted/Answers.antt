@@ -1,20 +1,17 @@
 -- `rounds::opening::rooted` meets its contract. Assumes nothing.
 use mathlib.Core.Path.{ap, ◌∙◌}
+use Rattle.schema.proofs.Errors.{passed_on}
 use Rattle.rounds.proofs.Openings.{root_found_law, root_unknown}
 use Rattle.rounds.proofs.opening.rooted.Goals as goal
 
-pub returns-in-Nothing : goal.returns-in-Nothing
-returns-in-Nothing c =
+pub returns-in_err-place : goal.returns-in_err-place
+returns-in_err-place c =
     let a = c.args in
-    let v = c.read_row-root in
-    let q = c.find_structure in
-    root_unknown a.sheet.now a.schema.now a.work a.entries v.result.a q.result (ap (λ x. x.a) v.ensures) q.ensures.result_value c.in-Nothing.is
+    rw (← passed_on _ c.in_err-place.field-0.0 c.from_residual.ensures.1)
+    (root_unknown a.sheet.now a.schema.now a.work a.entries _ c.find.result (ap (λ x. x.a) c.read_row-name.ensures) c.find.ensures.result_value _ c.in_err-place.ensures.value)
 
-pub returns-in-At : goal.returns-in-At
-returns-in-At c =
+pub returns : goal.returns
+returns c =
     let a = c.args in
-    let v = c.read_row-root in
-    let q = c.find_structure in
     c.roomed.ensures
-    ∙ root_found_law a.sheet.now a.schema.now a.work a.entries v.result.a q.result (ap (λ x. x.a) v.ensures) q.ensures.result_value c.in-At.place
-    c.in-At.is
+    ∙ root_found_law a.sheet.now a.schema.now a.work a.entries _ c.find.result (ap (λ x. x.a) c.read_row-name.ensures) c.find.ensures.result_value c.in_ok-place.place c.in_ok-place.ensures.ok_part

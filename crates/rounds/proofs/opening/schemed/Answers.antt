@@ -1,16 +1,15 @@
 -- `rounds::opening::schemed` meets its contract. Assumes nothing.
 use mathlib.Core.Path.{◌∙◌}
+use Rattle.schema.proofs.Errors.{passed_on}
 use Rattle.rounds.proofs.Openings.{schema_bad, schema_good}
 use Rattle.rounds.proofs.opening.schemed.Goals as goal
 
-pub returns-in-Refused : goal.returns-in-Refused
-returns-in-Refused c =
+pub returns-in_err-entries : goal.returns-in_err-entries
+returns-in_err-entries c =
     let a = c.args in
-    let q = c.check_schema in
-    schema_bad a.sheet.now a.schema.now a.work c.in-Refused.k q.result q.ensures c.in-Refused.is
+    rw (← passed_on _ c.in_err-entries.field-0.0 c.from_residual.ensures.1) (schema_bad a.sheet.now a.schema.now a.work _ c.in_err-entries.ensures)
 
-pub returns-in-Sound : goal.returns-in-Sound
-returns-in-Sound c =
+pub returns : goal.returns
+returns c =
     let a = c.args in
-    let q = c.check_schema in
-    c.rooted.ensures ∙ schema_good a.sheet.now a.schema.now a.work c.in-Sound.entries q.result q.ensures c.in-Sound.is
+    c.rooted.ensures ∙ schema_good a.sheet.now a.schema.now a.work c.in_ok-entries.entries c.in_ok-entries.ensures

@@ -7,16 +7,17 @@ unfolding agrees_with
 returns c =
     rw (
       c.records.ensures,
-      c.part_from-2.ensures,
+      c.part_from-3.ensures,
       c.all_are-2.ensures,
       c.all_are.ensures,
+      c.part_from-2.ensures,
       c.same-f.ensures,
       c.part_to-2.ensures,
       c.part_from.ensures,
       c.part_to.ensures,
-      c.read_u32-4.ensures,
-      c.read_u32-3.ensures,
-      c.read_u32-size.ensures,
-      c.read_u32-2.ensures,
-      c.read_u32.ensures,
+      c.read-4.ensures,
+      c.read-3.ensures,
+      c.read-size.ensures,
+      c.read-2.ensures,
+      c.read.ensures,
     )

@@ -8,7 +8,7 @@ use lib.ListN.{length}
 use Prim.Native.Nat.{◌+◌, ◌-◌}
 use Rattle.writers.proofs.Kindly.{member_as_structure, member_as_array, member_as_map, member_as_plain, structure_wrong, structure_inline, structure_pointed, run_plain, run_pointers, run_missing, run_structs}
 use mathlib.Core.Bool.{not}
-use borrow.Author.Tests.{leb-true}
+use borrow.Author.Tests.{leb-true, eqb-true, eqb-false}
 use Rattle.writers.proofs.Inlines.{pushed_within, inline_missing, inline_long, inline_refused, inline_done}
 use Rattle.writers.proofs.Fillings.{embedded_refused, embedded_dropped, embedded_room, embedded_kept, array_none, array_wrong, array_pointed, array_embedded, laid_wide, laid_empty, laid_refused, laid_dropped, laid_room, laid_kept}
 use Rattle.writers.proofs.Pointers.{pointed_long, pointed_absent, pointed_other, pointed_refused, pointed_nothing, pointed_at, point_missing, point_refused, point_unlaid, point_laid, can_lay}
@@ -152,7 +152,7 @@ write_structure-returns t c =
 -- `write_inline`.
 pub write_inline-returns-then-not-fits : goal.write_inline-returns-then-not-fits
 write_inline-returns-then-not-fits t c =
-    inline_long _ _ _ _ c.args.sheet.now c.args.schema.now c.args.left c.args.d c.args.m _ _ c.in-At.i _ _ _ c.requires.safe.0 c.requires.safe.1 c.look_up.ensures.name_value c.in-At.is
+    inline_long _ _ _ _ c.args.sheet.now c.args.schema.now c.args.left c.args.d c.args.m _ _ c.in-Some.i _ _ _ c.requires.safe.0 c.requires.safe.1 c.look_up.ensures.name_value c.in-Some.is
     c.fits.ensures c.if-not-fits.true c.say-then-not-fits.ensures
 
 pub write_inline-overflow_sub-to : goal.write_inline-overflow_sub-to
@@ -160,26 +160,26 @@ write_inline-overflow_sub-to t c = omega (arith, c.requires.buffer.low)
 
 pub write_inline-overflow_add-to : goal.write_inline-overflow_add-to
 write_inline-overflow_add-to t c =
-    let fit = leb-true (c.args.m.offset + c.in-At.i.size) c.args.d.size (sym c.fits.ensures ∙ c.if-not-fits.false) in
+    let fit = leb-true (c.args.m.offset + c.in-Some.i.size) c.args.d.size (sym c.fits.ensures ∙ c.if-not-fits.false) in
     omega (arith, c.requires.buffer.low, fit, c.well_formed)
 
 pub write_inline-shift-requires : goal.write_inline-shift-requires
 write_inline-shift-requires t c =
-    let fit = leb-true (c.args.m.offset + c.in-At.i.size) c.args.d.size (sym c.fits.ensures ∙ c.if-not-fits.false) in
-    (omega (arith, c.requires.buffer.low, fit), omega (arith, pushed_within c.args.round (length c.args.work.now) c.args.p c.in-At.i.size _ _ c.write_struct.ensures.grew c.in-Done.is, c.work-in-At-1.given))
+    let fit = leb-true (c.args.m.offset + c.in-Some.i.size) c.args.d.size (sym c.fits.ensures ∙ c.if-not-fits.false) in
+    (omega (arith, c.requires.buffer.low, fit), omega (arith, pushed_within c.args.round (length c.args.work.now) c.args.p c.in-Some.i.size _ _ c.write_struct.ensures.grew c.in-Done.is, c.work-in-Some-1.given))
 
-pub write_inline-returns-in-Missing : goal.write_inline-returns-in-Missing
-write_inline-returns-in-Missing t c =
-    inline_missing _ _ _ _ c.args.sheet.now c.args.schema.now c.args.left c.args.d c.args.m _ _ _ _ c.requires.safe.0 c.requires.safe.1 c.look_up.ensures.name_value c.in-Missing.is c.say.ensures
+pub write_inline-returns-in-None : goal.write_inline-returns-in-None
+write_inline-returns-in-None t c =
+    inline_missing _ _ _ _ c.args.sheet.now c.args.schema.now c.args.left c.args.d c.args.m _ _ _ _ c.requires.safe.0 c.requires.safe.1 c.look_up.ensures.name_value c.in-None.is c.say.ensures
 
 pub write_inline-returns-in-Refused : goal.write_inline-returns-in-Refused
 write_inline-returns-in-Refused t c =
-    inline_refused _ _ _ _ c.args.sheet.now c.args.schema.now c.args.left c.args.d c.args.m _ _ c.in-At.i _ _ _ _ _ _ c.look_up.ensures.name_value c.in-At.is
+    inline_refused _ _ _ _ c.args.sheet.now c.args.schema.now c.args.left c.args.d c.args.m _ _ c.in-Some.i _ _ _ _ _ _ c.look_up.ensures.name_value c.in-Some.is
     c.fits.ensures c.if-not-fits.false (c.source_of.ensures c.args.sheet.now) c.write_struct.ensures c.in-Refused.is
 
 pub write_inline-returns-in-Done : goal.write_inline-returns-in-Done
 write_inline-returns-in-Done t c =
-    inline_done _ _ _ _ c.args.sheet.now c.args.schema.now c.args.left c.args.d c.args.m _ _ c.in-At.i _ _ _ c.in-Done.t _ _ c.requires.safe.0 c.requires.buffer c.look_up.ensures.name_value c.in-At.is
+    inline_done _ _ _ _ c.args.sheet.now c.args.schema.now c.args.left c.args.d c.args.m _ _ c.in-Some.i _ _ _ c.in-Done.t _ _ c.requires.safe.0 c.requires.buffer c.look_up.ensures.name_value c.in-Some.is
     c.fits.ensures c.if-not-fits.false (c.source_of.ensures c.args.sheet.now) c.write_struct.ensures c.in-Done.is c.shift.ensures
 
 -- `write_embedded`.
@@ -204,9 +204,9 @@ pub write_pointed-returns-then-not-fits : goal.write_pointed-returns-then-not-fi
 write_pointed-returns-then-not-fits t c =
     pointed_long _ _ _ _ c.args.sheet.now c.args.schema.now c.args.left c.args.d c.args.m c.args.v _ _ _ c.requires.safe.0 c.requires.safe.1 c.fits.ensures c.if-not-fits.true c.say.ensures
 
-pub write_pointed-returns-then-row-ne21 : goal.write_pointed-returns-then-row-ne21
-write_pointed-returns-then-row-ne21 t c =
-    pointed_other _ _ _ _ c.args.sheet.now c.args.schema.now c.args.left c.args.d c.args.m c.args.v _ c.in-At.r _ c.requires.safe.0 c.fits.ensures c.if-not-fits.false c.in-At.is c.read_row-row.ensures c.if-row-ne21.true
+pub write_pointed-returns-then-not-is : goal.write_pointed-returns-then-not-is
+write_pointed-returns-then-not-is t c =
+    pointed_other _ _ _ _ c.args.sheet.now c.args.schema.now c.args.left c.args.d c.args.m c.args.v _ c.in-Some.r _ c.requires.safe.0 c.fits.ensures c.if-not-fits.false c.in-Some.is c.read_row-row.ensures (eqb-false _ _ (sym c.is.ensures ∙ c.if-not-is.true))
 
 pub write_pointed-overflow_sub-at : goal.write_pointed-overflow_sub-at
 write_pointed-overflow_sub-at t c = omega (arith, c.requires.buffer.low)
@@ -219,50 +219,50 @@ write_pointed-overflow_add-at t c =
 pub write_pointed-put_pointer-requires : goal.write_pointed-put_pointer-requires
 write_pointed-put_pointer-requires t c =
     let fit = leb-true (c.args.m.offset + 8) c.args.d.size (sym c.fits.ensures ∙ c.if-not-fits.false) in
-    omega (arith, c.requires.buffer.low, fit, c.requires.safe.0, c.work-in-At-1.given)
+    omega (arith, c.requires.buffer.low, fit, c.requires.safe.0, c.work-in-Some-1.given)
 
-pub write_pointed-returns-in-Missing : goal.write_pointed-returns-in-Missing
-write_pointed-returns-in-Missing t c =
-    pointed_absent _ _ _ _ c.args.sheet.now c.args.schema.now c.args.left c.args.d c.args.m c.args.v _ c.requires.safe.0 c.fits.ensures c.if-not-fits.false c.in-Missing.is
+pub write_pointed-returns-in-None : goal.write_pointed-returns-in-None
+write_pointed-returns-in-None t c =
+    pointed_absent _ _ _ _ c.args.sheet.now c.args.schema.now c.args.left c.args.d c.args.m c.args.v _ c.requires.safe.0 c.fits.ensures c.if-not-fits.false c.in-None.is
 
 pub write_pointed-returns-in-Refused : goal.write_pointed-returns-in-Refused
 write_pointed-returns-in-Refused t c =
-    pointed_refused _ _ _ _ c.args.sheet.now c.args.schema.now c.args.left c.args.d c.args.m c.args.v _ c.in-At.r _ _ _ _ _ c.fits.ensures c.if-not-fits.false c.in-At.is c.read_row-row.ensures c.if-row-ne21.false
+    pointed_refused _ _ _ _ c.args.sheet.now c.args.schema.now c.args.left c.args.d c.args.m c.args.v _ c.in-Some.r _ _ _ _ _ c.fits.ensures c.if-not-fits.false c.in-Some.is c.read_row-row.ensures (eqb-true _ _ (sym c.is.ensures ∙ c.if-not-is.false))
     c.point_to.ensures c.in-Refused.is
 
 pub write_pointed-returns-in-Nothing : goal.write_pointed-returns-in-Nothing
 write_pointed-returns-in-Nothing t c =
-    pointed_nothing _ _ _ _ c.args.sheet.now c.args.schema.now c.args.left c.args.d c.args.m c.args.v _ c.in-At.r _ _ _ _ c.fits.ensures c.if-not-fits.false c.in-At.is c.read_row-row.ensures c.if-row-ne21.false
+    pointed_nothing _ _ _ _ c.args.sheet.now c.args.schema.now c.args.left c.args.d c.args.m c.args.v _ c.in-Some.r _ _ _ _ c.fits.ensures c.if-not-fits.false c.in-Some.is c.read_row-row.ensures (eqb-true _ _ (sym c.is.ensures ∙ c.if-not-is.false))
     c.point_to.ensures c.in-Nothing.is
 
-pub write_pointed-returns-in-At-point_to : goal.write_pointed-returns-in-At-point_to
-write_pointed-returns-in-At-point_to t c =
-    pointed_at _ _ _ _ c.args.sheet.now c.args.schema.now c.args.left c.args.d c.args.m c.args.v _ c.in-At.r _ _ _ _ _ _ c.requires.buffer c.fits.ensures c.if-not-fits.false c.in-At.is c.read_row-row.ensures c.if-row-ne21.false
-    c.point_to.ensures c.in-At-point_to.is c.put_pointer.ensures
+pub write_pointed-returns-in-At : goal.write_pointed-returns-in-At
+write_pointed-returns-in-At t c =
+    pointed_at _ _ _ _ c.args.sheet.now c.args.schema.now c.args.left c.args.d c.args.m c.args.v _ c.in-Some.r _ _ _ _ _ _ c.requires.buffer c.fits.ensures c.if-not-fits.false c.in-Some.is c.read_row-row.ensures (eqb-true _ _ (sym c.is.ensures ∙ c.if-not-is.false))
+    c.point_to.ensures c.in-At.is c.put_pointer.ensures
 
 -- `point_to`.
 pub point_to-lay-requires : goal.point_to-lay-requires
 point_to-lay-requires t c =
-    let both = can_lay c.args.round (length c.args.work.now) _ c.args.p c.in-At.i.size _ _ c.requires.0 c.work-in-At-1.given c.write_struct.ensures.grew c.in-Done.is in record { safe = both.0; len_bound = both.1 }
+    let both = can_lay c.args.round (length c.args.work.now) _ c.args.p c.in-Some.i.size _ _ c.requires.0 c.work-in-Some-1.given c.write_struct.ensures.grew c.in-Done.is in record { safe = both.0; len_bound = both.1 }
 
-pub point_to-returns-in-Missing : goal.point_to-returns-in-Missing
-point_to-returns-in-Missing t c =
-    point_missing _ _ _ _ c.args.sheet.now c.args.schema.now c.args.left c.args.d c.args.m c.args.reference _ _ _ _ _ c.requires.0 c.requires.1 c.read_row.ensures c.own_type.ensures.owned c.in-Missing.is c.say.ensures
+pub point_to-returns-in-None : goal.point_to-returns-in-None
+point_to-returns-in-None t c =
+    point_missing _ _ _ _ c.args.sheet.now c.args.schema.now c.args.left c.args.d c.args.m c.args.reference _ _ _ _ _ c.requires.0 c.requires.1 c.read_row.ensures c.own_type.ensures.owned c.in-None.is c.say.ensures
 
 pub point_to-returns-in-Refused : goal.point_to-returns-in-Refused
 point_to-returns-in-Refused t c =
-    point_refused _ _ _ _ c.args.sheet.now c.args.schema.now c.args.left c.args.d c.args.m c.args.reference _ _ _ c.in-At.i _ _ _ _ _ c.read_row.ensures c.own_type.ensures.owned c.in-At.is refl
+    point_refused _ _ _ _ c.args.sheet.now c.args.schema.now c.args.left c.args.d c.args.m c.args.reference _ _ _ c.in-Some.i _ _ _ _ _ c.read_row.ensures c.own_type.ensures.owned c.in-Some.is refl
     c.write_struct.ensures c.in-Refused.is
 
 pub point_to-returns-in-Refused-lay : goal.point_to-returns-in-Refused-lay
 point_to-returns-in-Refused-lay t c =
-    point_unlaid _ _ _ _ c.args.sheet.now c.args.schema.now c.args.left c.args.d c.args.m c.args.reference _ _ _ c.in-At.i _ _ c.in-Done.t _ _ _ _ _ _ c.read_row.ensures c.own_type.ensures.owned c.in-At.is refl
-    c.write_struct.ensures c.in-Done.is c.work-in-At-1.given c.lay.ensures c.in-Refused-lay.is
+    point_unlaid _ _ _ _ c.args.sheet.now c.args.schema.now c.args.left c.args.d c.args.m c.args.reference _ _ _ c.in-Some.i _ _ c.in-Done.t _ _ _ _ _ _ c.read_row.ensures c.own_type.ensures.owned c.in-Some.is refl
+    c.write_struct.ensures c.in-Done.is c.work-in-Some-1.given c.lay.ensures c.in-Refused-lay.is
 
-pub point_to-returns-in-At-lay : goal.point_to-returns-in-At-lay
-point_to-returns-in-At-lay t c =
-    point_laid _ _ _ _ c.args.sheet.now c.args.schema.now c.args.left c.args.d c.args.m c.args.reference _ _ _ c.in-At.i _ _ c.in-Done.t _ _ _ _ _ _ c.requires.0 c.read_row.ensures c.own_type.ensures.owned
-    c.in-At.is refl c.write_struct.ensures c.in-Done.is c.work-in-At-1.given c.lay.ensures c.in-At-lay.is
+pub point_to-returns-in-At : goal.point_to-returns-in-At
+point_to-returns-in-At t c =
+    point_laid _ _ _ _ c.args.sheet.now c.args.schema.now c.args.left c.args.d c.args.m c.args.reference _ _ _ c.in-Some.i _ _ c.in-Done.t _ _ _ _ _ _ c.requires.0 c.read_row.ensures c.own_type.ensures.owned
+    c.in-Some.is refl c.write_struct.ensures c.in-Done.is c.work-in-Some-1.given c.lay.ensures c.in-At.is
 
 -- `write_array`.
 pub write_array-returns-then-not-is_array_value : goal.write_array-returns-then-not-is_array_value
@@ -331,13 +331,13 @@ run::element_run-returns-then-x-eq3 t c =
 pub run::element_run-stop_run-requires : goal.run::element_run-stop_run-requires
 run::element_run-stop_run-requires t c = c.requires
 
-pub run::element_run-returns-in-Missing : goal.run::element_run-returns-in-Missing
-run::element_run-returns-in-Missing t c =
-    run_missing _ _ _ _ c.args.sheet.now c.args.schema.now c.args.left c.args.d c.args.m c.args.x c.args.first c.args.n _ _ _ c.if-x-ne12.false c.if-x-eq3.false c.look_up.ensures.name_value c.in-Missing.is c.stop_run.ensures.yields
+pub run::element_run-returns-in-None : goal.run::element_run-returns-in-None
+run::element_run-returns-in-None t c =
+    run_missing _ _ _ _ c.args.sheet.now c.args.schema.now c.args.left c.args.d c.args.m c.args.x c.args.first c.args.n _ _ _ c.if-x-ne12.false c.if-x-eq3.false c.look_up.ensures.name_value c.in-None.is c.stop_run.ensures.yields
 
-pub run::element_run-returns-in-At : goal.run::element_run-returns-in-At
-run::element_run-returns-in-At t c =
-    run_structs _ _ _ _ c.args.sheet.now c.args.schema.now c.args.left c.args.d c.args.m c.args.x c.args.first c.args.n _ c.in-At.i _ _ c.if-x-ne12.false c.if-x-eq3.false c.look_up.ensures.name_value c.in-At.is c.struct_run.ensures
+pub run::element_run-returns-in-Some : goal.run::element_run-returns-in-Some
+run::element_run-returns-in-Some t c =
+    run_structs _ _ _ _ c.args.sheet.now c.args.schema.now c.args.left c.args.d c.args.m c.args.x c.args.first c.args.n _ c.in-Some.i _ _ c.if-x-ne12.false c.if-x-eq3.false c.look_up.ensures.name_value c.in-Some.is c.struct_run.ensures
 
 -- `pointer_run`.
 pub run::pointer_run-loop-k-init : goal.run::pointer_run-loop-k-init
@@ -359,8 +359,8 @@ run::pointer_run-overflow_add-q t c =
 pub run::pointer_run-overflow_add-k : goal.run::pointer_run-overflow_add-k
 run::pointer_run-overflow_add-k t c = record { fits = omega (arith, c.loop-k-test.true, c.ranges.n.fits) }
 
-pub run::pointer_run-loop-k-preserved-then-v-ne21 : goal.run::pointer_run-loop-k-preserved-then-v-ne21
-run::pointer_run-loop-k-preserved-then-v-ne21 t c =
+pub run::pointer_run-loop-k-preserved-then-not-is : goal.run::pointer_run-loop-k-preserved-then-not-is
+run::pointer_run-loop-k-preserved-then-not-is t c =
     let a = c.args in
     let l = c.loop-k in
     let v = c.loop-k.invariant in (
@@ -369,7 +369,7 @@ run::pointer_run-loop-k-preserved-then-v-ne21 t c =
       v.2,
       v.3,
       pointing_skip a.schema.now a.sheet.now a.round (length a.work.now) a.left a.d a.m a.reference a.first a.n c.in-Done.s a.work.now
-          l.q l.work l.k v.3 v.4 c.loop-k-test.true (λ z. c.if-v-ne21.true (ap (λ (x : Row). x.kind) c.read_row-v.ensures ∙ z)),
+          l.q l.work l.k v.3 v.4 c.loop-k-test.true (λ z. eqb-false _ _ (sym c.is.ensures ∙ c.if-not-is.true) (ap (λ (x : Row). x.kind) c.read_row-v.ensures ∙ z)),
     )
 
 pub run::pointer_run-point_to-requires : goal.run::pointer_run-point_to-requires
@@ -394,7 +394,7 @@ run::pointer_run-returns-in-Refused-point_to t c =
     let v = c.loop-k.invariant in
     let d = paid_done a.round a.p (run_cost 8 a.n) c.run_cost.result c.pay.result c.in-Done.s c.run_cost.ensures c.pay.ensures c.in-Done.is in
     pointing_stopped a.schema.now a.sheet.now a.round (length a.work.now) a.left a.d a.m a.reference a.first a.n c.in-Done.s a.work.now
-    l.q l.work l.k v.3 v.4 c.loop-k-test.true a.p d c.in-Refused-point_to.t _ c.in-Refused-point_to.e (ap (λ (x : Row). x.kind) (sym c.read_row-v.ensures) ∙ c.if-v-ne21.false) (rw (v.0, c.in-Refused-point_to.is) at c.point_to.ensures)
+    l.q l.work l.k v.3 v.4 c.loop-k-test.true a.p d c.in-Refused-point_to.t _ c.in-Refused-point_to.e (ap (λ (x : Row). x.kind) (sym c.read_row-v.ensures) ∙ eqb-true _ _ (sym c.is.ensures ∙ c.if-not-is.false)) (rw (v.0, c.in-Refused-point_to.is) at c.point_to.ensures)
 
 pub run::pointer_run-loop-k-preserved-in-Nothing : goal.run::pointer_run-loop-k-preserved-in-Nothing
 run::pointer_run-loop-k-preserved-in-Nothing t c =
@@ -406,7 +406,7 @@ run::pointer_run-loop-k-preserved-in-Nothing t c =
       v.2,
       v.3,
       pointing_nothing a.schema.now a.sheet.now a.round (length a.work.now) a.left a.d a.m a.reference a.first a.n c.in-Done.s a.work.now
-          l.q l.work l.k v.3 v.4 c.loop-k-test.true c.in-Nothing.t _ (ap (λ (x : Row). x.kind) (sym c.read_row-v.ensures) ∙ c.if-v-ne21.false) (rw (v.0, c.in-Nothing.is) at c.point_to.ensures),
+          l.q l.work l.k v.3 v.4 c.loop-k-test.true c.in-Nothing.t _ (ap (λ (x : Row). x.kind) (sym c.read_row-v.ensures) ∙ eqb-true _ _ (sym c.is.ensures ∙ c.if-not-is.false)) (rw (v.0, c.in-Nothing.is) at c.point_to.ensures),
     )
 
 pub run::pointer_run-loop-k-preserved : goal.run::pointer_run-loop-k-preserved
@@ -419,7 +419,7 @@ run::pointer_run-loop-k-preserved t c =
       v.2,
       v.3,
       rw c.put_pointer.ensures (pointing_at a.schema.now a.sheet.now a.round (length a.work.now) a.left a.d a.m a.reference a.first a.n c.in-Done.s a.work.now
-          l.q l.work l.k v.3 v.4 c.loop-k-test.true c.in-At.t _ c.in-At.x (ap (λ (x : Row). x.kind) (sym c.read_row-v.ensures) ∙ c.if-v-ne21.false) (rw (v.0, c.in-At.is) at c.point_to.ensures)),
+          l.q l.work l.k v.3 v.4 c.loop-k-test.true c.in-At.t _ c.in-At.x (ap (λ (x : Row). x.kind) (sym c.read_row-v.ensures) ∙ eqb-true _ _ (sym c.is.ensures ∙ c.if-not-is.false)) (rw (v.0, c.in-At.is) at c.point_to.ensures)),
     )
 
 pub run::pointer_run-returns-in-Refused : goal.run::pointer_run-returns-in-Refused
@@ -528,9 +528,9 @@ pub map::write_map-returns-then-not-fits : goal.map::write_map-returns-then-not-
 map::write_map-returns-then-not-fits t c =
     map_wide c.args.sheet.now c.args.schema.now c.args.round c.args.left c.args.p c.args.work.now c.args.d c.args.m c.requires.safe.0 c.requires.safe.1 c.args.v c.if-m-ne1.false _ c.fits.ensures _ _ (ap not c.if-not-fits.true) c.say-then-not-fits.ensures
 
-pub map::write_map-returns-then-kind : goal.map::write_map-returns-then-kind
-map::write_map-returns-then-kind t c =
-    map_wrong c.args.sheet.now c.args.schema.now c.args.round c.args.left c.args.p c.args.work.now c.args.d c.args.m c.requires.safe.0 c.requires.safe.1 c.args.v c.if-m-ne1.false _ c.fits.ensures (ap not c.if-not-fits.false) _ c.value_row-row.ensures _ _ c.if-kind.true c.wrong.ensures.fills
+pub map::write_map-returns-then-is : goal.map::write_map-returns-then-is
+map::write_map-returns-then-is t c =
+    map_wrong c.args.sheet.now c.args.schema.now c.args.round c.args.left c.args.p c.args.work.now c.args.d c.args.m c.requires.safe.0 c.requires.safe.1 c.args.v c.if-m-ne1.false _ c.fits.ensures (ap not c.if-not-fits.false) _ c.value_row-row.ensures _ _ (rw (← c.is.ensures, ← c.is-2.ensures) c.if-is.true) c.wrong.ensures.fills
 
 pub map::write_map-overflow_add-at : goal.map::write_map-overflow_add-at
 map::write_map-overflow_add-at t c =
@@ -542,7 +542,7 @@ map::write_map-put_pointer-requires t c =
 
 pub map::write_map-returns-then-n-eq0 : goal.map::write_map-returns-then-n-eq0
 map::write_map-returns-then-n-eq0 t c =
-    map_empty c.args.sheet.now c.args.schema.now c.args.round c.args.left c.args.p c.args.work.now c.args.d c.args.m c.requires.safe.0 c.requires.safe.1 c.args.v c.if-m-ne1.false _ c.fits.ensures (ap not c.if-not-fits.false) _ c.value_row-row.ensures c.if-kind.false _ c.pair_count-n.ensures c.requires.buffer.low _ c.put_pointer.ensures c.work-2-1.given c.if-n-eq0.true
+    map_empty c.args.sheet.now c.args.schema.now c.args.round c.args.left c.args.p c.args.work.now c.args.d c.args.m c.requires.safe.0 c.requires.safe.1 c.args.v c.if-m-ne1.false _ c.fits.ensures (ap not c.if-not-fits.false) _ c.value_row-row.ensures (rw (← c.is.ensures, ← c.is-2.ensures) c.if-is.false) _ c.pair_count-n.ensures c.requires.buffer.low _ c.put_pointer.ensures c.work-2-1.given c.if-n-eq0.true
 
 pub map::write_map-pairs-requires : goal.map::write_map-pairs-requires
 map::write_map-pairs-requires t c =
@@ -550,7 +550,7 @@ map::write_map-pairs-requires t c =
 
 pub map::write_map-returns : goal.map::write_map-returns
 map::write_map-returns t c =
-    map_pairs c.args.sheet.now c.args.schema.now c.args.round c.args.left c.args.p c.args.work.now c.args.d c.args.m c.requires.safe.0 c.requires.safe.1 c.args.v c.if-m-ne1.false _ c.fits.ensures (ap not c.if-not-fits.false) _ c.value_row-row.ensures c.if-kind.false _ c.pair_count-n.ensures c.requires.buffer.low _ c.put_pointer.ensures _ _ c.work-2-1.given c.pairs.ensures
+    map_pairs c.args.sheet.now c.args.schema.now c.args.round c.args.left c.args.p c.args.work.now c.args.d c.args.m c.requires.safe.0 c.requires.safe.1 c.args.v c.if-m-ne1.false _ c.fits.ensures (ap not c.if-not-fits.false) _ c.value_row-row.ensures (rw (← c.is.ensures, ← c.is-2.ensures) c.if-is.false) _ c.pair_count-n.ensures c.requires.buffer.low _ c.put_pointer.ensures _ _ c.work-2-1.given c.pairs.ensures
 
 -- `pairs`.
 pub map::pairs-overflow_sub-at : goal.map::pairs-overflow_sub-at
@@ -567,20 +567,20 @@ map::pairs-overflow_sub-t t c = run_higher _ _ _ _ _ _ _ _ _ c.struct_run.ensure
 
 pub map::pairs-lay_run-requires : goal.map::pairs-lay_run-requires
 map::pairs-lay_run-requires t c =
-    let both = pairs_room c.args.sheet.now c.args.schema.now c.args.round c.args.left c.args.p c.args.work.now c.args.d c.args.m c.requires.safe.0 c.requires.safe.1 c.requires.buffer.0.low c.requires.buffer.1 c.args.first c.args.n c.requires.buffer.2 _ c.reference_at-h.ensures _ c.look_up.ensures.name_value _ c.in-At.is _ _ c.struct_run.ensures _ _ _ c.in-Kept.is c.work-in-At-1.given in record { safe = both.0; len_bound = both.1 }
+    let both = pairs_room c.args.sheet.now c.args.schema.now c.args.round c.args.left c.args.p c.args.work.now c.args.d c.args.m c.requires.safe.0 c.requires.safe.1 c.requires.buffer.0.low c.requires.buffer.1 c.args.first c.args.n c.requires.buffer.2 _ c.reference_at-h.ensures _ c.look_up.ensures.name_value _ c.in-Some.is _ _ c.struct_run.ensures _ _ _ c.in-Kept.is c.work-in-Some-1.given in record { safe = both.0; len_bound = both.1 }
 
-pub map::pairs-returns-in-Missing : goal.map::pairs-returns-in-Missing
-map::pairs-returns-in-Missing t c =
-    pairs_missing c.args.sheet.now c.args.schema.now c.args.round c.args.left c.args.p c.args.work.now c.args.d c.args.m c.requires.safe.0 c.requires.safe.1 c.requires.buffer.0.low c.requires.buffer.1 c.args.first c.args.n c.requires.buffer.2 _ c.reference_at-h.ensures _ c.look_up.ensures.name_value _ _ c.in-Missing.is c.say.ensures
+pub map::pairs-returns-in-None : goal.map::pairs-returns-in-None
+map::pairs-returns-in-None t c =
+    pairs_missing c.args.sheet.now c.args.schema.now c.args.round c.args.left c.args.p c.args.work.now c.args.d c.args.m c.requires.safe.0 c.requires.safe.1 c.requires.buffer.0.low c.requires.buffer.1 c.args.first c.args.n c.requires.buffer.2 _ c.reference_at-h.ensures _ c.look_up.ensures.name_value _ _ c.in-None.is c.say.ensures
 
 pub map::pairs-returns-in-Refused : goal.map::pairs-returns-in-Refused
 map::pairs-returns-in-Refused t c =
-    pairs_refused c.args.sheet.now c.args.schema.now c.args.round c.args.left c.args.p c.args.work.now c.args.d c.args.m c.requires.safe.0 c.requires.safe.1 c.requires.buffer.0.low c.requires.buffer.1 c.args.first c.args.n c.requires.buffer.2 _ c.reference_at-h.ensures _ c.look_up.ensures.name_value _ c.in-At.is _ _ c.struct_run.ensures _ _ c.in-Refused.is
+    pairs_refused c.args.sheet.now c.args.schema.now c.args.round c.args.left c.args.p c.args.work.now c.args.d c.args.m c.requires.safe.0 c.requires.safe.1 c.requires.buffer.0.low c.requires.buffer.1 c.args.first c.args.n c.requires.buffer.2 _ c.reference_at-h.ensures _ c.look_up.ensures.name_value _ c.in-Some.is _ _ c.struct_run.ensures _ _ c.in-Refused.is
 
 pub map::pairs-returns-in-Dropped : goal.map::pairs-returns-in-Dropped
 map::pairs-returns-in-Dropped t c =
-    pairs_dropped c.args.sheet.now c.args.schema.now c.args.round c.args.left c.args.p c.args.work.now c.args.d c.args.m c.requires.safe.0 c.requires.safe.1 c.requires.buffer.0.low c.requires.buffer.1 c.args.first c.args.n c.requires.buffer.2 _ c.reference_at-h.ensures _ c.look_up.ensures.name_value _ c.in-At.is _ _ c.struct_run.ensures _ c.in-Dropped.is
+    pairs_dropped c.args.sheet.now c.args.schema.now c.args.round c.args.left c.args.p c.args.work.now c.args.d c.args.m c.requires.safe.0 c.requires.safe.1 c.requires.buffer.0.low c.requires.buffer.1 c.args.first c.args.n c.requires.buffer.2 _ c.reference_at-h.ensures _ c.look_up.ensures.name_value _ c.in-Some.is _ _ c.struct_run.ensures _ c.in-Dropped.is
 
 pub map::pairs-returns-in-Kept : goal.map::pairs-returns-in-Kept
 map::pairs-returns-in-Kept t c =
-    pairs_kept c.args.sheet.now c.args.schema.now c.args.round c.args.left c.args.p c.args.work.now c.args.d c.args.m c.requires.safe.0 c.requires.safe.1 c.requires.buffer.0.low c.requires.buffer.1 c.args.first c.args.n c.requires.buffer.2 _ c.reference_at-h.ensures _ c.look_up.ensures.name_value _ c.in-At.is _ _ c.struct_run.ensures _ _ _ _ c.in-Kept.is c.work-in-At-1.given c.lay_run.ensures
+    pairs_kept c.args.sheet.now c.args.schema.now c.args.round c.args.left c.args.p c.args.work.now c.args.d c.args.m c.requires.safe.0 c.requires.safe.1 c.requires.buffer.0.low c.requires.buffer.1 c.args.first c.args.n c.requires.buffer.2 _ c.reference_at-h.ensures _ c.look_up.ensures.name_value _ c.in-Some.is _ _ c.struct_run.ensures _ _ _ _ c.in-Kept.is c.work-in-Some-1.given c.lay_run.ensures
