@@ -8,14 +8,15 @@ use crate::model::text::{hash_text, parses_float, parts, trim};
 use crate::rng::Rng;
 
 const HEAD: &str = "-- Texts and numbers with their coercions.
-use Rattle.std.specs.Prelude.{ℕ, ◌≡◌, refl, cond, List, [], ◌∷◌, map, length}
+use Rattle.std.specs.Prelude.{ℕ, ◌≡◌, refl, cond, List, [], ◌∷◌, map, length, Ok, Err}
 use Rattle.numbers.specs.Words.{Bytes}
 use Rattle.conversions.specs.Signed.{signed_of, word_of}
 use Rattle.conversions.specs.Round.{f32_of}
 use Rattle.conversions.specs.Trunc.{i64_of}
 use Rattle.texts.specs.Text.{trimmed, parts}
 use Rattle.texts.specs.Float.{parses_float}
-use Rattle.coerce.specs.Numbers.{Fit, fits, unfit, float_text, int_text}
+use Rattle.coerce.specs.Numbers.{Fit, int_text}
+use Rattle.coerce.specs.declared.misfit.Misfit.TheVariants.{Unfit, FloatText}
 use Rattle.names.specs.Names.{hash_text}
 use Rattle.layout.specs.Eval
 
@@ -35,9 +36,9 @@ fn whole(t: &[u8]) -> Fit<u64> {
 
 fn reading(t: &[u8]) -> String {
     let fit = match whole(t) {
-        Fit::Fits(x) => format!("(fits {x})"),
-        Fit::Unfit => "unfit".to_string(),
-        Fit::FloatText => "float_text".to_string(),
+        Fit::Fits(x) => format!("(Ok {x})"),
+        Fit::Unfit => "(Err Unfit)".to_string(),
+        Fit::FloatText => "(Err FloatText)".to_string(),
     };
     format!("reading {} {fit} 0x{:X} {}", parses_float(trim(t)) as u32, hash_text(t), parts(t).count())
 }
