@@ -1,47 +1,39 @@
 -- Vectors: a text's first part, an Array's items. Assumes nothing.
-use Rattle.std.specs.Prelude.{◌≡◌, Bool, false, cond, List, [], ◌∷◌, ◌++◌, ℕ, zero, suc, ◌+◌, ◌≤◌, ◌<◌, leb, length, take, drop, replicate, Ok, Err}
-use mathlib.Core.Path.{refl, sym, ap, ◌∙◌}
+use Rattle.std.specs.Prelude.{Option, Some, None, option_map, find, MatchOption, not, ◌==◌, ◌≡◌, Bool, cond, List, [], ◌∷◌, ◌++◌, ℕ, zero, suc, ◌+◌, leb, length, take, replicate, Ok, Err}
+use mathlib.Core.Path.{refl, ap, ◌∙◌}
 use native.Mathlib.Omega.{arith}
-use borrow.Author.Tests.{lt-ltb}
-use lib.ListN.{drop_of_length-le}
-use lib.Seq.{drop-drop}
-use Rattle.numbers.specs.Words.{Bytes, is_empty}
+use borrow.Author.Tests.{lt-ltb, ne_eqb}
+use denote.Ref.{Bor}
+use Rattle.numbers.specs.Words.{Bytes}
 use Rattle.value.specs.Rows
-use Rattle.texts.specs.Text.{until_parting, split, non_empty, parts}
+use Rattle.texts.specs.Text.{split, non_empty, parts}
 use Rattle.coerce.specs.Numbers
 use Rattle.coerce.specs.Numbers.{Fit, fit_then, map_fit}
 use Rattle.coerce.specs.Answer
 use Rattle.coerce.specs.declared.misfit.Misfit.{Misfit}
 use Rattle.coerce.specs.declared.misfit.Misfit.TheVariants.{Unfit}
-use Rattle.texts.proofs.Splits.{parts_step}
 
 -- ---- a text's first part
 
-take_some : (l : Bytes) (n : ℕ) → 0 < n → n ≤ length l → is_empty (take n l) ≡ false
-take_some l zero h g = absurd (omega (arith, h))
-take_some [] (suc n) h g = absurd (omega (arith, g))
-take_some (b ∷ l) (suc n) h g = refl
+abbrev pub filled_part : Bytes → Bool
+filled_part p = not (length p == 0)
 
-module _ (s u : Bytes) (i k : ℕ) (pu : u ≡ drop i s) (pk : k ≡ until_parting u) where
-  until_is : until_parting (drop i s) ≡ k
-  until_is = rw (pk, pu)
+abbrev chosen : Option Bytes → Misfit
+chosen None = Unfit
+chosen (Some p) = Numbers.misfit_of p
 
-  -- a comma or white space is passed over
-  pub first_turn : k ≤ 0 → Answer.first_misfit (parts (drop (i + 1) s)) ≡ Answer.first_misfit (parts (drop i s))
-  first_turn h =
-      let z : k ≡ 0 = omega arith in
-      let e : parts (drop i s) ≡ parts (drop (i + 1) s) = parts_step (drop i s) ∙ rw (until_is, z, drop-drop 1 i s) in
-      sym (ap Answer.first_misfit e)
+-- the first part that is not empty
+first_is : (ps : List Bytes) → chosen (find filled_part ps) ≡ Answer.first_misfit (non_empty ps)
+unfolding non_empty
+first_is [] = refl
+first_is ([] ∷ ps) = first_is ps
+first_is ((b ∷ p) ∷ ps) = rw (ne_eqb (length (b ∷ p)) 0 (λ e. omega (arith, e)))
 
-  pub first_here : (p : Bytes) (m : Misfit) → 0 < k → k ≤ length u → p ≡ take k u → m ≡ Numbers.misfit_of p → m ≡ Answer.first_misfit (parts (drop i s))
-  first_here p m h g pp pm =
-      let e : is_empty (take k (drop i s)) ≡ false = ap (λ (l : Bytes). is_empty (take k l)) (sym pu) ∙ take_some u k h g in
-      let q : parts (drop i s) ≡ take k (drop i s) ∷ parts (drop (suc k) (drop i s)) = parts_step (drop i s) ∙ rw (until_is, e) in
-      pm ∙ ap Numbers.misfit_of (pp ∙ ap (take k) pu) ∙ sym (ap Answer.first_misfit q)
-
-pub first_done : (s : Bytes) (i : ℕ) → length s ≤ i → Unfit ≡ Answer.first_misfit (parts (drop i s))
-unfolding parts split non_empty
-first_done s i h = rw (drop_of_length-le s h)
+pub first_found : (s : Bytes) (r : Option (Bor Bytes)) (m : Misfit) → option_map (λ (p : Bor Bytes). p.now) r ≡ find filled_part (split s)
+    → MatchOption r (m ≡ Unfit) (λ (p : Bor Bytes). m ≡ Numbers.misfit_of p.now) → m ≡ Answer.first_misfit (parts s)
+unfolding parts
+first_found s None m e h = h ∙ ap chosen e ∙ first_is (split s)
+first_found s (Some p) m e h = h ∙ ap chosen e ∙ first_is (split s)
 
 -- a text gives no number
 pub vec_text_none : (T : Bytes) (ps : List Bytes) → Numbers.vec_text T ps ≡ Err (Answer.first_misfit ps)

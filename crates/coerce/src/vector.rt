@@ -7,7 +7,7 @@ ghost use Rattle.coerce.specs.Answer;
 
 use crate::misfit::Misfit;
 use crate::whole::{float_of, misfit_of};
-use texts::text::until_parting;
+use texts::text::is_parting;
 use value::kind::Kind;
 use value::{Row, read_row, text_of};
 
@@ -15,14 +15,9 @@ use value::{Row, read_row, text_of};
 fn first_misfit(s: &[u8]) -> Misfit
     ensures { result ≡ Answer.first_misfit (parts s.now) }
 {
-    for i in 0..s.len() {
-        let u = &s[i..];
-        let k = until_parting(u);
-        if 0 < k {
-            return misfit_of(&u[..k]);
-        }
-    }
-    Misfit::Unfit
+    s.split(|&b| is_parting(b))
+        .find(|part| !part.is_empty())
+        .map_or(Misfit::Unfit, misfit_of)
 }
 
 // Item i of the `count` rows from `first` on as an f32; 0 behind the last.

@@ -92,6 +92,7 @@ fn is_text(answer: &[u8], there: bool, text: &[u8]) -> bool {
 fn rows_of(alloc: Global, all: &[u8]) -> io::Result<Vec<Recorded<'_>>> {
     let mut rows = Vec::new(alloc);
     let mut rest = all;
+    // No `for`: each row says where the next one stands.
     while !rest.is_empty() {
         let len = read::<u32>(rest, 0) as usize;
         if len < 120 || rest.len() < len {

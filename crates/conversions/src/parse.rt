@@ -1,8 +1,8 @@
 // Whole numbers in a text, as Rust's from_str_radix reads them.
-ghost use Rattle.std.specs.Prelude.{◌≡◌, ◌≤◌, ◌<◌, length};
-ghost use Rattle.conversions.specs.Radix.{digits, first_of, after_plus, unsigned, signed};
+ghost use Rattle.std.specs.Prelude.{◌≡◌, ◌≤◌};
+ghost use Rattle.conversions.specs.Radix.{digits, after_plus, unsigned, signed};
 
-// The number of the digits `s`, if it fits. std's from_str_radix reads a `str`: to test first that `s` is one would be slower.
+// The number of the digits `s`, if it fits. std's from_str_radix reads a `str`, and to test first that `s` is one is no plainer.
 fn read_digits(s: &[u8], radix: u64) -> Option<u64>
     requires { (2 ≤ radix) × (radix ≤ 36) }
     ensures { result ≡ digits radix 0xFFFF_FFFF_FFFF_FFFF s.now }
@@ -18,13 +18,6 @@ fn read_digits(s: &[u8], radix: u64) -> Option<u64>
     Some(n)
 }
 
-// The first byte, or 0.
-pub fn first(s: &[u8]) -> u8
-    ensures { (result ≡ first_of s.now) × (0 < result → 0 < length s.now) }
-{
-    s.first().copied().unwrap_or(0)
-}
-
 // What follows a '+'.
 fn after_plus(s: &[u8]) -> &[u8]
     ensures { result.now ≡ after_plus s.now }
@@ -35,7 +28,7 @@ fn after_plus(s: &[u8]) -> &[u8]
     }
 }
 
-// u64::from_str_radix
+// u64::from_str_radix. The radix is a number with std's bounds, as there, and no type of its own.
 pub fn u64_of(s: &[u8], radix: u64) -> Option<u64>
     requires { (2 ≤ radix) × (radix ≤ 36) }
     ensures { result ≡ unsigned 64 radix s.now }
@@ -48,12 +41,10 @@ pub fn i64_of(s: &[u8], radix: u64) -> Option<i64>
     requires { (2 ≤ radix) × (radix ≤ 36) }
     ensures { result ≡ signed 64 radix s.now }
 {
-    // A slice pattern was tried: the proof did not close, as the arm `_` lacks that the first byte is another.
-    if first(s) == b'-' {
-        let n = read_digits(&s[1..], radix)?;
-        return 0i64.checked_sub_unsigned(n);
+    match s {
+        [b'-', rest @ ..] => 0i64.checked_sub_unsigned(read_digits(rest, radix)?),
+        _ => i64::try_from(read_digits(after_plus(s), radix)?).ok(),
     }
-    i64::try_from(read_digits(after_plus(s), radix)?).ok()
 }
 
 // u32::from_str_radix in radix 16

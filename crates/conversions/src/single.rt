@@ -1,4 +1,4 @@
-// f32 bit patterns: from a whole number, and to one.
+// f32 bit patterns: from a whole number, and to one. The steps on bits are a rule of the project: no f32 is computed with.
 ghost use Rattle.std.specs.Prelude.{◌≡◌, ◌+◌, ◌<◌, ◌*◌, ◌^◌, pos, ◌-ℤ◌, ◌*ℤ◌};
 ghost use Rattle.std.proofs.Math.IntN.{sub_ℕ};
 ghost use Rattle.conversions.specs.Single.{value};
@@ -47,7 +47,6 @@ fn whole_of(p: u32) -> u64
     requires { p < 191 * 2 ^ 23 }
     ensures { result ≡ whole p }
 {
-    // The steps on bits are a rule of the project: no f32 is computed with.
     let e = p >> 23;
     let c = (p % 0x80_0000 + 0x80_0000) as u64;
     if e < 127 {

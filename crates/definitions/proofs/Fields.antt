@@ -1,14 +1,15 @@
 -- What the code reads from a place on: the numbers of a structure, of a member, of an entry. Assumes nothing.
 use mathlib.Core.Path.{◌≡◌, sym, ap, ◌∙◌}
 use mathlib.Core.Logic.{◌⊎◌, inl, inr}
-use Prim.Native.Nat.{ℕ, ◌+◌, ◌≤◌, ◌<◌, min}
+use Prim.Native.Nat.{ℕ, ◌+◌, ◌-◌, ◌≤◌, ◌<◌, min}
+use native.Mathlib.Nat.{sub-zero, zero-add}
 use native.Mathlib.Omega.{arith}
 use lib.ListN.{length, take, drop, drop_of_length-le}
 use lib.Seq.{drop-drop}
 use Rattle.numbers.specs.Words.{Bytes, number, read_at}
-use Rattle.numbers.proofs.Parts.{split}
+use Rattle.numbers.proofs.Parts.{split, read_part}
 use Rattle.schema.specs.Psch.{member_at}
-use Rattle.definitions.specs.Answers.{head_here, member_is, entry_here}
+use Rattle.definitions.specs.Answers.{head_here, entry_here}
 
 -- a sum that is cut off lies behind the last byte
 pub from_sum : (F H : Bytes) (s a b : ℕ) → H ≡ drop s F → s ≡ min a 18446744073709551615 → length F ≤ 18446744073709551615 → a ≡ b → H ≡ drop b F
@@ -20,21 +21,51 @@ from_sum F H s a b h e l q = go (split a 18446744073709551615)
         rw (← y) h
     go (inr x) = h ∙ drop_of_length-le F (omega arith) ∙ sym (drop_of_length-le F (omega arith))
 
+-- of an index entry's eight bytes: its name, and the place that it leads to
+module _ (P : Bytes) (at : ℕ) where
+  abbrev entry : Bytes
+  entry = take (at + 8 - at) (drop at P)
+
+  in_entry : (i : ℕ) → i + 4 ≤ 8 → read_at 4 entry i ≡ read_at 4 P (at + i)
+  in_entry i h =
+      let n : at + 8 - at ≡ 8 = omega arith in
+      rw n (read_part 4 P at 8 i h)
+
+  pub entry_name : read_at 4 (take (at + 8 - at) (drop at P)) 0 ≡ read_at 4 P at
+  entry_name =
+      let z : at + 0 ≡ at = omega arith in
+      in_entry 0 (omega arith) ∙ ap (read_at 4 P) z
+
+  pub entry_place : read_at 4 (take (at + 8 - at) (drop at P)) 4 ≡ read_at 4 P (at + 4)
+  entry_place = in_entry 4 (omega arith)
+
 module _ (F : Bytes) (at : ℕ) (H : Bytes) (h : H ≡ drop at F) where
   -- read behind the place
   pub behind : (k i : ℕ) → read_at k H i ≡ read_at k F (at + i)
   unfolding read_at
   behind k i = ap (λ (x : Bytes). number 0 (take k x)) (ap (drop i) h ∙ drop-drop i at F)
 
-  pub head_is : (u n z : ℕ) → u ≡ read_at 1 H 1 → n ≡ read_at 2 H 2 → z ≡ read_at 4 H 4 → record { unknown = u; count = n; size = z } ≡ head_here F at
-  head_is u n z a b c = rw (a, b, c, behind 1 1, behind 2 2, behind 4 4)
+  -- read in the first n bytes from the place on, where that is all of them
+  within : (n k i : ℕ) → i + k ≤ n → read_at k (take (n - 0) (drop 0 H)) i ≡ read_at k F (at + i)
+  within n k i g = rw sub-zero (read_part k H 0 n i g ∙ ap (read_at k H) (zero-add i) ∙ behind k i)
 
-  pub member_is_law : (n t s o r : ℕ) → n ≡ read_at 4 H 0 → t ≡ read_at 1 H 4 → s ≡ read_at 1 H 5 → o ≡ read_at 2 H 6 → r ≡ read_at 4 H 8
-      → record { name = n; kind = t; subtype = s; offset = o; reference = r } ≡ member_is (member_at F at)
+  pub head_behind : head_here H 0 ≡ head_here F at
+  head_behind = rw (behind 1 (0 + 1), behind 2 (0 + 2), behind 4 (0 + 4))
+
+  pub head_within : head_here (take (8 - 0) (drop 0 H)) 0 ≡ head_here F at
+  head_within = rw (within 8 1 1 (omega arith), within 8 2 2 (omega arith), within 8 4 4 (omega arith))
+
+  pub member_behind : member_at H 0 ≡ member_at F at
   unfolding member_at
-  member_is_law n t s o r a b c d e =
+  member_behind =
       let z : at + 0 ≡ at = omega arith in
-      rw (a, b, c, d, e, behind 4 0, behind 1 4, behind 1 5, behind 2 6, behind 4 8, z)
+      rw (behind 4 0, behind 1 4, behind 1 5, behind 2 6, behind 4 8, z)
+
+  pub member_within : member_at (take (12 - 0) (drop 0 H)) 0 ≡ member_at F at
+  unfolding member_at
+  member_within =
+      let z : at + 0 ≡ at = omega arith in
+      rw (within 12 4 0 (omega arith), within 12 1 4 (omega arith), within 12 1 5 (omega arith), within 12 2 6 (omega arith), within 12 4 8 (omega arith), z)
 
   pub entry_is_law : (n v : ℕ) → n ≡ read_at 4 H 0 → v ≡ read_at 4 H 4 → record { name = n; value = v } ≡ entry_here F at
   entry_is_law n v a b =

@@ -1,5 +1,5 @@
 // Look-up by name: of the definitions of a kind and a name, the one that counts when building is the last.
-ghost use Rattle.std.specs.Prelude.{◌≡◌, ◌+◌, ◌^◌, ◌≤◌, ◌<◌, length, option_map};
+ghost use Rattle.std.specs.Prelude.{◌≡◌, ◌+◌, ◌≤◌, length, option_map};
 ghost use Rattle.numbers.specs.Words.{read_at};
 ghost use Rattle.numbers.specs.Result.{ok, given};
 ghost use Rattle.schema.specs.Defs.{Schema, winning};
@@ -20,14 +20,17 @@ pub fn index_count(p: &[u8]) -> usize
 }
 
 // The place in a PSCH section that the index entry at `at` leads to, if it has the name and a definition of the kind stands there.
+#[tactic(auto, using(crate::proofs::Fields::entry_name, crate::proofs::Fields::entry_place))]
 pub fn place_at(p: &[u8], at: usize, kind: Kind, name: u32) -> Option<usize>
     requires { at + 8 ≤ length p.now }
     ensures { result ≡ given (leads_to p.now (kind_number kind) name at) (read_at 4 p.now (at + 4)) }
 {
-    if read::<u32>(p, at) != name {
+    // Read in the entry's own eight bytes: of a slice of this length no field's end is tested.
+    let entry = &p[at..at + 8];
+    if read::<u32>(entry, 0) != name {
         return None;
     }
-    let place = read::<u32>(p, at + 4) as usize;
+    let place = read::<u32>(entry, 4) as usize;
     if place < p.len() && read::<u8>(p, place) == kind as u8 {
         Some(place)
     } else {
@@ -36,8 +39,8 @@ pub fn place_at(p: &[u8], at: usize, kind: Kind, name: u32) -> Option<usize>
 }
 
 // The last definition of a kind and a name in a section, by its place in the file; another section than PSCH has none.
+// pso's `first_in` walks from the front: one function with a direction would be no plainer.
 fn last_in(section: Section, kind: Kind, name: u32) -> Option<usize>
-    requires { section.place < 2 ^ 63 }
     ensures { let P = section.entry.bytes.now in result ≡ option_map (section.entry.place +◌) (last_of (section_places (read_at 4 P 0) P (kind_number kind) name)) }
 {
     if !section.is(b"PSCH") {

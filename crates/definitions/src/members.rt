@@ -14,16 +14,27 @@ pub struct Head {
     pub size: u32,
 }
 
-// The numbers of the structure at a place.
+// The numbers of the structure that starts these bytes.
+#[inline]
+fn head_of(bytes: &[u8]) -> Head
+    ensures { result ≡ head_here bytes.now 0 }
+{
+    Head {
+        unknown: read::<u8>(bytes, 1),
+        count: read::<u16>(bytes, 2),
+        size: read::<u32>(bytes, 4),
+    }
+}
+
+// The numbers of the structure at a place. One test where all of them are there.
 pub fn read_head(file: &[u8], place: usize) -> Head
     ensures { result ≡ head_here file.now place }
 {
     let here = part_from(file, place);
-    Head {
-        unknown: read::<u8>(here, 1),
-        count: read::<u16>(here, 2),
-        size: read::<u32>(here, 4),
+    if here.len() < 8 {
+        return head_of(here);
     }
+    head_of(&here[..8])
 }
 
 #[derive(Clone, Copy)]
@@ -35,18 +46,30 @@ pub struct Member {
     pub reference: u32,
 }
 
-// The member k of the structure at a place.
+// The member that starts these bytes.
+#[inline]
+#[tactic(auto, unfolding(schema::specs::Psch::member_at))]
+fn member_of(bytes: &[u8]) -> Member
+    ensures { result ≡ member_is (member_at bytes.now 0) }
+{
+    Member {
+        name: read::<u32>(bytes, 0),
+        kind: read::<u8>(bytes, 4),
+        subtype: read::<u8>(bytes, 5),
+        offset: read::<u16>(bytes, 6),
+        reference: read::<u32>(bytes, 8),
+    }
+}
+
+// The member k of the structure at a place. One test where all of it is there.
 pub fn read_member(file: &[u8], place: usize, k: u32) -> Member
     ensures { result ≡ member_is (member_at file.now (place + 12 + 12 * k)) }
 {
     let here = part_from(file, place.saturating_add(12 + 12 * (k as usize)));
-    Member {
-        name: read::<u32>(here, 0),
-        kind: read::<u8>(here, 4),
-        subtype: read::<u8>(here, 5),
-        offset: read::<u16>(here, 6),
-        reference: read::<u32>(here, 8),
+    if here.len() < 12 {
+        return member_of(here);
     }
+    member_of(&here[..12])
 }
 
 // How many entries the enum at a place has.

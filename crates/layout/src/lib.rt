@@ -1,7 +1,7 @@
 // The definitions of this crate stand in specs/, their laws in proofs/.
 #![tactic(auto)]
 
-// A remark: what is wrong with a member of a structure.
+// A remark: what is wrong with a member of a structure. Four numbers, since callers in C lend a list of these.
 #[repr(C)]
 #[derive(Clone, Copy, Debug, PartialEq, Eq)]
 pub struct Remark {

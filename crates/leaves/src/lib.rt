@@ -172,7 +172,7 @@ pub extern "C" fn leaf_i64_of(s: &[u8], radix: u64) -> Signed
     read.ok_or(Misfit::Unfit).into()
 }
 
-// A radix below 2 or above 36 gives code 1.
+// A radix below 2 or above 36 gives code 1. Two functions, as C has no generic ones.
 #[unsafe(no_mangle)]
 pub extern "C" fn leaf_u64_of(s: &[u8], radix: u64) -> Unsigned
     ensures { result ≡ Codes.unsigned_of (Codes.there (Codes.unsigned_in radix s.now)) }

@@ -2,7 +2,6 @@
 -- Assumes nothing.
 use Rattle.std.specs.Prelude.{Ok, Err}
 use Prim.Native.Nat.{ℕ, zero, suc}
-use mathlib.Core.Path.{◌≡◌, refl, subst}
 use mathlib.Core.Bool.{Bool, true, false, cond}
 use mathlib.Core.List.{List, [], ◌∷◌}
 use lib.Dec.{eqb}
@@ -94,12 +93,3 @@ module _ (T : Bytes) (es : Entries) where
       below_cond (eqb v.kind Rows.Flags) (Ok v.a) _ (Ok v.a) _ tt
       (below_cond (eqb v.kind Rows.Str) _ _ _ _ (below_named t (flag_names es (parts t)) (flag_names [] (parts t)) (names_below (parts t)))
       (below_cond (eqb v.kind Rows.Array) _ _ _ _ (items_below (flags_bits n T es) (flags_bits n T []) (flags_below n) (Rows.children_of v)) (below_same (map_fit low32 (int_of T v)))))
-
--- what fails with entries fails with none
-pub below_fails : (a b : Fit ℕ) → Below a b → a ≡ (Err Unfit) → b ≡ (Err Unfit)
-below_fails a b h e = go b (subst (λ x. Below x b) e h)
-  where
-    go : (c : Fit ℕ) → Below (Err Unfit) c → c ≡ (Err Unfit)
-    go (Ok y) k = absurd k
-    go (Err Unfit) k = refl
-    go (Err FloatText) k = absurd k

@@ -1,21 +1,20 @@
 -- The bits of flags, by a text's parts and by an array's items. Assumes nothing.
-use Rattle.std.specs.Prelude.{◌≡◌, ◌==◌, true, cond, List, [], ◌∷◌, ℕ, zero, suc, max, ◌+◌, ◌-◌, ◌*◌, ◌/◌, ◌%◌, ◌≤◌, ◌<◌, length, take, drop, Option, Some, None, Ok, Err}
+use Rattle.std.specs.Prelude.{◌≡◌, cond, List, [], ◌∷◌, ℕ, zero, suc, max, ◌+◌, ◌-◌, ◌*◌, ◌/◌, ◌%◌, ◌≤◌, ◌<◌, length, get_or, drop, Option, Some, None, Ok, Err}
 use mathlib.Core.Path.{refl, sym, ap, ◌∙◌}
 use native.Mathlib.Nat.{add-zero, sub-zero}
 use native.Mathlib.Omega.{arith}
 use lib.Bits.{bit_or, or_step, or_zero_r}
-use lib.Seq.{drop-drop}
-use borrow.Author.Tests.{eq-eqb, ne_eqb, eqb-true}
+use borrow.Author.Tests.{eq-eqb, ne_eqb}
+use Rattle.std.proofs.lemmas.List.{at_drop_more, at_drop_all}
 use Rattle.numbers.specs.Words.{Bytes, is_empty}
 use Rattle.value.specs.Rows
-use Rattle.texts.specs.Text.{until_parting, split, non_empty, parts}
+use Rattle.texts.specs.Text.{split, non_empty, parts}
 use Rattle.coerce.specs.Numbers.{Fit, fit_or, fit_then, map_fit}
 use Rattle.coerce.specs.declared.misfit.Misfit.{Misfit}
 use Rattle.coerce.specs.declared.misfit.Misfit.TheVariants.{Unfit}
 use Rattle.schema.specs.Defs.{first_entry}
 use Rattle.names.specs.Names
 use Rattle.names.specs.Answer
-use Rattle.texts.proofs.Splits.{parts_step}
 
 -- ---- bits
 
@@ -65,25 +64,32 @@ unfolding Names.flag_names
 one_part es [] ps = sym (or_none_law (Names.flag_names es ps))
 one_part es (b ∷ p) ps = one_name (first_entry es (Names.hash_text (b ∷ p))) (Names.flag_names es ps)
 
--- one turn: p is the first part, b what is behind it
-module _ (es : Names.Entries) (t p b : Bytes) (k bits : ℕ) (pk : k ≡ until_parting t) (pp : p ≡ take k t) (pb : b ≡ drop 1 (drop k t)) where
-  behind : drop (suc (until_parting t)) t ≡ b
-  behind = let e : k + 1 ≡ suc (until_parting t) = omega arith in sym (pb ∙ drop-drop 1 k t ∙ rw e)
+-- the bits of the parts from i on
+abbrev pub part_bits_from : Names.Entries → Bytes → ℕ → Fit ℕ
+part_bits_from es t i = Names.flag_names es (non_empty (drop i (split t)))
 
-  names_step : Names.flag_names es (parts t) ≡ bits_then (Answer.part_bits es p) (Names.flag_names es (parts b))
+pub names_first : (es : Names.Entries) (t : Bytes) → map_fit (bit_or 0) (part_bits_from es t 0) ≡ Names.flag_names es (parts t)
+unfolding parts
+names_first es t = or_none_law (part_bits_from es t 0)
+
+-- one turn: p is the part i
+module _ (es : Names.Entries) (t p : Bytes) (i j bits : ℕ) (h : (i < length (split t)) × (p ≡ get_or (split t) i p)) where
+  names_step : part_bits_from es t i ≡ bits_then (Answer.part_bits es p) (part_bits_from es t (i + 1))
+  unfolding non_empty
   names_step =
-      ap (Names.flag_names es) (parts_step t) ∙ one_part es (take (until_parting t) t) (parts (drop (suc (until_parting t)) t)) ∙ rw (behind, ← pk, ← pp)
+      at_drop_more (λ ps. Names.flag_names es (non_empty ps)) (split t) i p h.0
+      ∙ ap (λ q. Names.flag_names es (non_empty (q ∷ drop (i + 1) (split t)))) (sym h.1)
+      ∙ one_part es p (non_empty (drop (i + 1) (split t)))
 
-  pub names_turn : (x : ℕ) → Answer.part_bits es p ≡ Ok x → map_fit (bit_or bits) (Names.flag_names es (parts t)) ≡ map_fit (bit_or (bit_or bits x)) (Names.flag_names es (parts b))
-  names_turn x e = ap (map_fit (bit_or bits)) names_step ∙ then_ok bits x (Answer.part_bits es p) (Names.flag_names es (parts b)) e
+  pub names_turn : (x : ℕ) → Answer.part_bits es p ≡ Ok x → j ≡ i + 1 → map_fit (bit_or bits) (part_bits_from es t i) ≡ map_fit (bit_or (bit_or bits x)) (part_bits_from es t j)
+  names_turn x e n = rw n (ap (map_fit (bit_or bits)) names_step ∙ then_ok bits x (Answer.part_bits es p) (part_bits_from es t (i + 1)) e)
 
-  pub names_err : (m : Misfit) → Answer.part_bits es p ≡ Err m → map_fit (bit_or bits) (Names.flag_names es (parts t)) ≡ Err m
-  names_err m e = ap (map_fit (bit_or bits)) names_step ∙ then_err bits m (Answer.part_bits es p) (Names.flag_names es (parts b)) e
+  pub names_err : (m : Misfit) → Answer.part_bits es p ≡ Err m → map_fit (bit_or bits) (part_bits_from es t i) ≡ Err m
+  names_err m e = ap (map_fit (bit_or bits)) names_step ∙ then_err bits m (Answer.part_bits es p) (part_bits_from es t (i + 1)) e
 
-pub names_done : (es : Names.Entries) (t : Bytes) (bits : ℕ) → (length t == 0) ≡ true → map_fit (bit_or bits) (Names.flag_names es (parts t)) ≡ Ok bits
-unfolding Names.flag_names parts non_empty split
-names_done es [] bits h = ap Ok (or_zero_r bits)
-names_done es (b ∷ t) bits h = let e = eqb-true (length (b ∷ t)) 0 h in absurd (omega arith)
+pub names_done : (es : Names.Entries) (t : Bytes) (i bits : ℕ) → length (split t) ≤ i → map_fit (bit_or bits) (part_bits_from es t i) ≡ Ok bits
+unfolding Names.flag_names non_empty
+names_done es t i bits h = ap (map_fit (bit_or bits)) (at_drop_all (λ ps. Names.flag_names es (non_empty ps)) (split t) i h) ∙ ap Ok (or_zero_r bits)
 
 -- ---- the items of an array
 

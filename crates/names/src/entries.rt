@@ -14,14 +14,14 @@ pub struct Entries<'a> {
 }
 
 impl<'a> Entries<'a> {
-    ghost use Rattle.std.specs.Prelude.{◌≡◌, []};
+    ghost use Rattle.std.specs.Prelude.{◌≡◌};
     ghost use Rattle.schema.specs.Defs.{first_entry};
-    ghost use Rattle.names.specs.Entries.{all_of};
+    ghost use Rattle.names.specs.Entries.{all_of, NoEntries};
 
     // No entries.
     #[tactic(auto, unfolding(schema::specs::Psch::entries_at))]
     pub fn empty(schema: &'a [u8]) -> Self
-        ensures { all_of result ≡ [] }
+        ensures { NoEntries schema.now result }
     {
         Self {
             schema,

@@ -38,7 +38,7 @@ pub fn number_text(t: &[u8]) -> Result<u32, Misfit>
     parse_int(t).map(low32)
 }
 
-// A trimmed text in an enum's place.
+// A trimmed text in an enum's place. `flag_text` asks other names where there is no number: a closure for that would be no plainer.
 #[tactic(auto, unfolding(crate::specs::Names::named_text))]
 fn enum_text(entries: Entries, t: &[u8]) -> Result<u32, Misfit>
     ensures { result ≡ Names.enum_text (all_of entries.entry) t.now }

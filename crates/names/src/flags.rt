@@ -9,8 +9,7 @@ use crate::entries::Entries;
 use crate::enums::{low_of, number_text};
 use crate::hashes::hash_of_str;
 use coerce::misfit::Misfit;
-use numbers::words::part_from;
-use texts::text::{trim, until_parting};
+use texts::text::{is_parting, trim};
 use value::kind::Kind;
 use value::{Row, read_row, text_of};
 
@@ -38,11 +37,8 @@ fn flag_names(entries: Entries, t: &[u8]) -> Result<u32, Misfit>
     ensures { result ≡ Names.flag_names (all_of entries.entry) (parts t.now) }
 {
     let mut bits = 0;
-    let mut rest = t;
-    while !rest.is_empty() {
-        let (part, behind) = rest.split_at(until_parting(rest));
+    for part in t.split(|&b| is_parting(b)) {
         bits |= flag_part(entries, part)?;
-        rest = part_from(behind, 1);
     }
     Ok(bits)
 }

@@ -31,12 +31,6 @@ module _ (a b : Bytes) (i : ℕ) where
   unfolding same_bytes
   heads h g = rw (drop-cons a i 0 h, drop-cons b i 0 g, add-one)
 
-  pub same_turn : i < length a → i < length b → get_or a i 0 ≡ get_or b i 0 → same_bytes (drop (i + 1) a) (drop (i + 1) b) ≡ same_bytes (drop i a) (drop i b)
-  same_turn h g e = sym (heads h g ∙ rw (eq-eqb (get_or a i 0) (get_or b i 0) e))
-
-  pub same_differ : i < length a → i < length b → (get_or a i 0 ≡ get_or b i 0 → ⊥) → false ≡ same_bytes (drop i a) (drop i b)
-  same_differ h g n = sym (heads h g ∙ rw (ne_eqb (get_or a i 0) (get_or b i 0) n))
-
   pub same_done : length a ≤ i → length b ≤ i → true ≡ same_bytes (drop i a) (drop i b)
   unfolding same_bytes
   same_done h g = rw (drop_of_length-le a h, drop_of_length-le b g)

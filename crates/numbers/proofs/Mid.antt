@@ -9,11 +9,10 @@ use borrow.Author.Tests.{eq-eqb, ne_eqb, eqb-true, eqb-false}
 use lib.ListN.{length-take, length-drop}
 use lib.Pointwise.{pointwise}
 use native.Mathlib.Nat.{pow-le-pow_right}
-use native.Mathlib.Numerals.{add-one}
-use lib.Seq.{paste, length-take-le, take_all, take-suc}
+use lib.Seq.{paste, length-take-le, take_all}
 use Rattle.numbers.specs.Words.{Bytes, number, read_at, bytes_of, over, same_bytes, name_bytes, Named}
 use Rattle.numbers.proofs.Bytes.{length_bytes, octets}
-use Rattle.numbers.proofs.Parts.{number_join, below_all}
+use Rattle.numbers.proofs.Parts.{below_all}
 use Rattle.numbers.proofs.Equal.{name_number}
 
 -- the k bytes at a place, written over
@@ -102,10 +101,6 @@ room_left n i h b =
     let f : i ≤ 7 = omega (arith, h) in
     let e : 256 ^ i ≤ 256 ^ 7 = pow-le-pow_right (omega arith) f in
     omega (arith, b, e)
-
-pub number_step : (l : Bytes) (n i b : ℕ) → i < length l → n ≡ number 0 (take i l) → b ≡ get_or l i 0 → n * 256 + b ≡ number 0 (take (i + 1) l)
-number_step l n i b h e f =
-    sym (rw add-one (ap (number 0) (take-suc l i 0 h) ∙ number_join 0 (take i l) (get_or l i 0 ∷ []) ∙ rw (sym e, sym f) refl))
 
 -- what was read of k bytes
 pub read_parts : (k : ℕ) (s t : Bytes) (at n : ℕ) → t ≡ take k (drop at s) → n ≡ number 0 t → n < 256 ^ length t → (n ≡ read_at k s at) × (n < 256 ^ k)

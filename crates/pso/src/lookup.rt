@@ -1,5 +1,5 @@
 // The definitions of a file, by name: the first of a name counts.
-ghost use Rattle.std.specs.Prelude.{◌≡◌, ◌+◌, ◌^◌, ◌<◌, option_map};
+ghost use Rattle.std.specs.Prelude.{◌≡◌, ◌+◌, option_map};
 ghost use Rattle.numbers.specs.Words.{read_at};
 ghost use Rattle.numbers.specs.Result.{ok};
 ghost use Rattle.schema.specs.Defs.{leading};
@@ -14,8 +14,8 @@ use schema::cursor::{Cursor, Section};
 use schema::kind::Kind;
 
 // The first definition of a kind and a name in a section, by its place in the file; another section than PSCH has none.
+// The `last_in` of definitions walks from the end: one function with a direction would be no plainer.
 fn first_in(section: Section, kind: Kind, name: u32) -> Option<usize>
-    requires { section.place < 2 ^ 63 }
     ensures { let P = section.entry.bytes.now in result ≡ option_map (section.entry.place +◌) (first_of (section_places (read_at 4 P 0) P (kind_number kind) name)) }
 {
     if !section.is(b"PSCH") {

@@ -1,5 +1,5 @@
 // `parse_pso`: the sections in file order, and what they leave.
-ghost use Rattle.std.specs.Prelude.{◌≡◌, ◌+◌, ◌^◌, ◌≤◌, ◌<◌, length};
+ghost use Rattle.std.specs.Prelude.{◌≡◌, ◌+◌, ◌≤◌, length};
 ghost use Rattle.numbers.specs.Result.{map_result};
 ghost use Rattle.numbers.specs.Refusal.{answer_of};
 ghost use Rattle.pso.specs.Reader.{parse_pso};
@@ -22,7 +22,7 @@ struct State<'a> {
 
 // One section; other names are passed over.
 fn see<'a>(section: Section<'a>, s: State<'a>) -> Result<State<'a>, Refusal>
-    requires { (s.blocks ≤ section.place) × (section.place < 2 ^ 63) }
+    requires { s.blocks ≤ section.place }
     ensures { Sees section.entry s.entry result }
 {
     if section.is(b"PSIN") {

@@ -1,7 +1,6 @@
 // A cursor over the sections of a file.
-ghost use Rattle.std.specs.Prelude.{◌≡◌};
+ghost use Rattle.std.specs.Prelude.{◌≡◌, ◌<◌, ◌^◌};
 ghost use Rattle.numbers.specs.Words.{Named};
-ghost use Rattle.schema.specs.Steps.{left_of, followed, Reach};
 
 use numbers::refusal::Refusal;
 use numbers::words::{is_name, left, read};
@@ -13,6 +12,7 @@ pub struct Section<'a> {
     pub place: usize,
     // Its own bytes, with its name and its length.
     pub bytes: &'a [u8],
+    pub ghost low: { place < 2 ^ 63 },
 }
 
 impl<'a> Section<'a> {
@@ -24,7 +24,8 @@ impl<'a> Section<'a> {
     }
 }
 
-// A place in a file where a section starts, or the file's end.
+// A place in a file where a section starts, or the file's end. It steps by value, as document 01 has it, and is no iterator:
+// a walk is a `while let`.
 #[derive(Clone, Copy)]
 pub struct Cursor<'a> {
     file: &'a [u8],
@@ -32,6 +33,8 @@ pub struct Cursor<'a> {
 }
 
 impl<'a> Cursor<'a> {
+    ghost use Rattle.schema.specs.Steps.{left_of, followed, Reach};
+
     // Before the first section.
     pub fn new(file: &'a [u8]) -> Cursor<'a>
         ensures { (result.file.now ≡ file.now) × (result.at ≡ 0) }

@@ -118,6 +118,7 @@ fn text_bytes(v: Row) -> usize
 }
 
 // What the rows so far claim: rows and text bytes; the last row's level, and the next level's first row.
+// Bounds stand with the methods that need them, and in no ghost field: the definitions build this record from any numbers.
 #[derive(Clone, Copy, Debug, PartialEq, Eq)]
 pub struct Walk {
     pub claimed: RowNumber,

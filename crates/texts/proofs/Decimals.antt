@@ -6,16 +6,12 @@ use mathlib.Core.List.{List, [], ◌∷◌}
 use native.Mathlib.Omega.{arith}
 use Prim.Native.Nat.{ℕ, zero, suc, ◌+◌, ◌-◌, ◌≤◌, ◌<◌}
 use borrow.Author.Tests.{eq-eqb, ne_eqb}
-use lib.Dec.{leb, eqb-suc-suc, eqb-zero-suc}
+use lib.Dec.{leb, eqb-suc-suc}
 use lib.ListN.{length, take, drop}
 use Rattle.numbers.specs.Words.{is_empty}
 use Rattle.numbers.proofs.Parts.{part_rest}
 use Rattle.conversions.specs.Radix.{first_of}
 use Rattle.texts.specs.Float.{is_digit, leading_digits, after_sign, only_digits, exponent, decimal, special, parses_float}
-
-or_false : (a : Bool) → (a || false) ≡ a
-or_false true = refl
-or_false false = refl
 
 -- ---- the digits in front
 
@@ -49,32 +45,34 @@ only_is s n e h = rw (← e) (ap (λ (t : Bool). leb 1 n && t) (ends n s h)) whe
 
 -- ---- the first byte
 
--- it is there if it is one of two that are not 0
-pub is_there : (f a b : ℕ) → 0 < a → 0 < b → ((f == a) || (f == b)) ≡ true → 0 < f
-is_there zero (suc a) (suc b) h k e = cc (eqb-zero-suc a, eqb-zero-suc b)
-is_there (suc f) a b h k e = omega arith
-is_there zero zero b h k e = absurd (omega arith)
-is_there zero (suc a) zero h k e = absurd (omega arith)
-
-module _ (s : List ℕ) (f : ℕ) (p : f ≡ first_of s) where
-  pub sign_there : ((f == 43) || (f == 45)) ≡ true → drop 1 s ≡ after_sign s
+module _ (s : List ℕ) where
+  pub sign_there : ((first_of s == 43) || (first_of s == 45)) ≡ true → drop 1 s ≡ after_sign s
   unfolding after_sign
-  sign_there e = rw (← p, e)
+  sign_there e = rw e
 
-  pub sign_none : ((f == 43) || (f == 45)) ≡ false → s ≡ after_sign s
+  pub sign_none : ((first_of s == 43) || (first_of s == 45)) ≡ false → s ≡ after_sign s
   unfolding after_sign
-  sign_none e = rw (← p, e)
+  sign_none e = rw e
 
-  pub mark_there : 0 < length s → ((f == 101) || (f == 69)) ≡ true → only_digits (after_sign (drop 1 s)) ≡ exponent s
-  unfolding exponent
-  mark_there h e = rw (there s h, ← p, e) where
-    there : (s : List ℕ) → 0 < length s → is_empty s ≡ false
-    there [] h = absurd (omega arith)
-    there (b ∷ l) h = refl
+pub sign_past : (s : List ℕ) → length s < 1 → s ≡ after_sign s
+unfolding after_sign
+sign_past [] l = refl
+sign_past (b ∷ s) l = absurd (omega arith)
 
-  pub mark_none : ((f == 101) || (f == 69)) ≡ false → is_empty s ≡ exponent s
-  unfolding exponent
-  mark_none e = rw (← p, e, or_false)
+pub mark_there : (s : List ℕ) → 1 ≤ length s → ((first_of s == 101) || (first_of s == 69)) ≡ true → only_digits (after_sign (drop 1 s)) ≡ exponent s
+unfolding exponent
+mark_there [] l e = absurd (omega arith)
+mark_there (b ∷ s) l e = rw e
+
+pub mark_none : (s : List ℕ) → 1 ≤ length s → ((first_of s == 101) || (first_of s == 69)) ≡ false → false ≡ exponent s
+unfolding exponent
+mark_none [] l e = absurd (omega arith)
+mark_none (b ∷ s) l e = rw e
+
+pub mark_past : (s : List ℕ) → length s < 1 → true ≡ exponent s
+unfolding exponent
+mark_past [] l = refl
+mark_past (b ∷ s) l = absurd (omega arith)
 
 -- ---- a number's parts
 

@@ -1,9 +1,8 @@
 // The texts that Rust's f32 and f64 parse takes.
-ghost use Rattle.std.specs.Prelude.{◌≡◌, ◌≤◌, ◌==◌, ◌||◌, length};
+ghost use Rattle.std.specs.Prelude.{◌≡◌, ◌≤◌, length};
 ghost use Rattle.texts.specs.Float;
 
 use crate::text::is_word;
-use conversions::parse::first;
 
 // How many digits stand in front.
 fn leading_digits(s: &[u8]) -> usize
@@ -14,17 +13,14 @@ fn leading_digits(s: &[u8]) -> usize
         .unwrap_or(s.len())
 }
 
-fn is_sign(b: u8) -> bool
-    ensures { result ≡ ((b == 43) || (b == 45)) }
-{
-    matches!(b, b'+' | b'-')
-}
-
 // What follows a sign.
 fn after_sign(s: &[u8]) -> &[u8]
     ensures { result.now ≡ Float.after_sign s.now }
 {
-    if is_sign(first(s)) { &s[1..] } else { s }
+    match s {
+        [b'+' | b'-', rest @ ..] => rest,
+        _ => s,
+    }
 }
 
 fn only_digits(s: &[u8]) -> bool
@@ -34,19 +30,13 @@ fn only_digits(s: &[u8]) -> bool
     1 <= n && n == s.len()
 }
 
-fn is_mark(b: u8) -> bool
-    ensures { result ≡ ((b == 101) || (b == 69)) }
-{
-    matches!(b, b'e' | b'E')
-}
-
 fn exponent(s: &[u8]) -> bool
     ensures { result ≡ Float.exponent s.now }
 {
-    if is_mark(first(s)) {
-        only_digits(after_sign(&s[1..]))
-    } else {
-        s.is_empty()
+    match s {
+        [] => true,
+        [b'e' | b'E', rest @ ..] => only_digits(after_sign(rest)),
+        _ => false,
     }
 }
 
@@ -55,13 +45,13 @@ fn decimal(s: &[u8]) -> bool
 {
     let n = leading_digits(s);
     let t = &s[n..];
-    // A slice pattern was tried: the proof did not close, as the arm `_` lacks that the first byte is another.
-    if first(t) == b'.' {
-        let u = &t[1..];
-        let m = leading_digits(u);
-        return 1 <= n + m && exponent(&u[m..]);
+    match t {
+        [b'.', rest @ ..] => {
+            let m = leading_digits(rest);
+            1 <= n + m && exponent(&rest[m..])
+        }
+        _ => 1 <= n && exponent(t),
     }
-    1 <= n && exponent(t)
 }
 
 fn special(s: &[u8]) -> bool

@@ -1,6 +1,6 @@
 // Texts as parts of a slice of bytes.
 ghost use Rattle.std.specs.Prelude.{◌≡◌, ◌≤◌, length, take, drop};
-ghost use Rattle.texts.specs.Text.{space, parting, until_parting, trim_start, trim_end, trimmed, is_word};
+ghost use Rattle.texts.specs.Text.{space, parting, trim_start, trim_end, trimmed, is_word};
 
 // std's is_ascii_whitespace leaves out byte 11.
 pub fn is_space(b: u8) -> bool
@@ -26,7 +26,7 @@ fn end_of(s: &[u8]) -> usize
     }
 }
 
-// The part of `s` without the white space at both ends.
+// The part of `s` without the white space at both ends: the middle of the caller's slice, never a copy. std's trim_ascii leaves byte 11.
 pub fn trim(s: &[u8]) -> &[u8]
     ensures { result.now ≡ trimmed s.now }
 {
@@ -35,22 +35,17 @@ pub fn trim(s: &[u8]) -> &[u8]
     &t[..e]
 }
 
-// Whether `s` is the word `w`, its letters in either case.
+// Whether `s` is the word `w`, its letters in either case. The definition is for any `w`, and a capital
+// in it matches nothing; std's eq_ignore_ascii_case would take it too.
 pub fn is_word(w: &[u8], s: &[u8]) -> bool
     ensures { result ≡ is_word w.now s.now }
 {
     s.len() == w.len() && s.iter().zip(w).all(|(b, c)| b.to_ascii_lowercase() == *c)
 }
 
-fn is_parting(b: u8) -> bool
+// Whether names and numbers in a text end before this byte.
+pub fn is_parting(b: u8) -> bool
     ensures { result ≡ parting b }
 {
     b == b',' || is_space(b)
-}
-
-// How many bytes stand before the first comma or white space.
-pub fn until_parting(s: &[u8]) -> usize
-    ensures { (result ≡ until_parting s.now) × (result ≤ length s.now) }
-{
-    s.iter().position(|&b| is_parting(b)).unwrap_or(s.len())
 }

@@ -47,7 +47,7 @@ see-requires c =
     let i = l.invariant in
     let b = c.in-Some.section in
     let o = onward l.cursor _ b c.in-Some.next c.in_ok-section.ensures c.in-Some.is in
-    (omega (arith, o.step.here, i.2), omega (arith, o.step.here, i.1))
+    omega (arith, o.step.here, i.2)
 
 pub loop-section-preserved : goal.loop-section-preserved
 loop-section-preserved c =

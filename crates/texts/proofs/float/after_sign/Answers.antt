@@ -1,19 +1,15 @@
 -- `texts::float::after_sign` meets its contract. Assumes nothing.
-use mathlib.Core.Path.{sym, ◌∙◌}
-use native.Mathlib.Omega.{arith}
+use mathlib.Core.Path.{◌∙◌}
 use Rattle.std.proofs.Common.{rules}
-use Rattle.std.specs.Prelude.{◌<◌, length}
 use Rattle.numbers.proofs.Parts.{part_rest}
-use Rattle.texts.proofs.Decimals.{is_there, sign_there, sign_none}
+use Rattle.texts.proofs.Decimals.{sign_there, sign_none, sign_past}
 use Rattle.texts.proofs.float.after_sign.Goals as goal
 
-pub slice_bounds-result-start : goal.slice_bounds-result-start
-slice_bounds-result-start c =
-    let h : 0 < length c.args.s.now = c.first.ensures.1 (is_there c.first.result 43 45 (omega arith) (omega arith) (sym c.is_sign.ensures ∙ c.if-is_sign.true)) in
-    search rules
+pub returns-in-43 : goal.returns-in-43
+returns-in-43 c = part_rest c.args.s.now 1 ∙ sign_there c.args.s.now (search rules)
 
-pub returns-then-is_sign : goal.returns-then-is_sign
-returns-then-is_sign c = part_rest c.args.s.now 1 ∙ sign_there c.args.s.now c.first.result c.first.ensures.0 (sym c.is_sign.ensures ∙ c.if-is_sign.true)
+pub returns-in_default : goal.returns-in_default
+returns-in_default c = sign_past c.args.s.now c.in_default.len_below
 
-pub returns-else-is_sign : goal.returns-else-is_sign
-returns-else-is_sign c = sign_none c.args.s.now c.first.result c.first.ensures.0 (sym c.is_sign.ensures ∙ c.if-is_sign.false)
+pub returns-in_default-2 : goal.returns-in_default-2
+returns-in_default-2 c = sign_none c.args.s.now (search rules)
