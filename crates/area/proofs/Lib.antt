@@ -10,3 +10,4 @@ pub mod Noting
 pub mod Using
 pub mod Laying
 pub mod Placing
+pub mod Stepping

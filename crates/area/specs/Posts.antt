@@ -1,17 +1,18 @@
 -- The contracts' parts, with names.
-use Rattle.std.specs.Prelude.{◌≡◌, ℕ, suc, ◌+◌, ◌-◌, ◌*◌, ◌≤◌, Bool, true, cond, ◌&&◌, ◌||◌, List, [], ◌∷◌, ◌++◌, ltb, leb, length, take, drop}
+use Rattle.std.specs.Prelude.{◌≡◌, ℕ, suc, ◌+◌, ◌-◌, ◌*◌, ◌≤◌, ◌<◌, Bool, true, cond, ◌&&◌, ◌||◌, List, [], ◌∷◌, ◌++◌, ltb, leb, length, take, drop, is_some, Result, Ok, Err}
 use Rattle.numbers.specs.Words.{Bytes, bytes_of, over, zeros}
-use Rattle.schema.specs.Defs.{Schema}
+use Rattle.numbers.specs.Refusal.{number_of}
+use Rattle.numbers.specs.declared.refusal.Refusal.{Refusal}
+use Rattle.numbers.specs.declared.refusal.Refusal.TheVariants.{BlockLimit, Charge}
+use Rattle.schema.specs.Defs.{Schema, winning}
 use Rattle.layout.specs.State as layout
 use Rattle.layout.specs.State.{Remark, State, with_remark, contains, spot, pointer_at, add_item, Out, done, stop}
 use Rattle.area.specs.declared.Round.{Round}
 use Rattle.area.specs.declared.Progress.{Progress}
 use Rattle.area.specs.declared.Spot.{Spot}
-use Rattle.area.specs.declared.Laid.{Laid}
-use Rattle.area.specs.declared.Laid.TheVariants.{At, Refused}
 use Rattle.area.specs.Kept.{Kept, meet, rows_bytes}
 use Rattle.area.specs.Rows.{rows_in, names_in, blocks_in}
-use Rattle.area.specs.Area.{items_at, stack_at, Rep, with_notes, with_used, with_item, headed}
+use Rattle.area.specs.Area.{items_at, stack_at, Rep, with_top, with_paid, with_notes, with_used, with_item, started_in, used_in, headed}
 
 -- the numbers are in order: every segment has room for all that is charged
 pub record Safe (R : Round) (n : ℕ) (p : Progress) : Type 0 where
@@ -29,7 +30,7 @@ pub record Safe (R : Round) (n : ℕ) (p : Progress) : Type 0 where
   pub next : p.next ≤ p.seen
   pub seen : p.seen ≤ 65536 * p.charge
 
--- there is charge for a further remark of each of 65,535 members
+-- there is charge for a further remark of each of 65,535 members: asked where a member is written, and no invariant of the area, since it need not hold afterwards
 abbrev pub Open : Progress → Type 0
 Open p = p.seen + 65536 ≤ 65536 * p.charge
 
@@ -97,6 +98,21 @@ pub record Marks (R : Round) (n : ℕ) (p : Progress) (w : Bytes) (known : Schem
   pub enums : q.enums ≤ R.entries
   pub says : (S : Schema) (s : State) (σ : Bytes) → known S ≡ true → Rep S R n s σ p w → Rep S R n (to s) σ q w'
 
+-- a structure's definition is used
+pub record UsesStruct (R : Round) (n : ℕ) (p : Progress) (w : Bytes) (name : ℕ) (q : Progress) (w' : Bytes) : Type 0 where
+  pub marks : Marks R n p w (λ S. is_some ((winning S).struct name)) (started_in name) q w'
+  pub exact : (q, w') ≡ struct_in R p w name
+
+-- an enum's
+pub record UsesEnum (R : Round) (n : ℕ) (p : Progress) (w : Bytes) (name : ℕ) (q : Progress) (w' : Bytes) : Type 0 where
+  pub marks : Marks R n p w (λ S. is_some ((winning S).enum name)) (used_in name) q w'
+  pub exact : (q, w') ≡ enum_in R p w name
+
+-- what stands from `base` on is taken off the stack
+pub record Fell (p : Progress) (base : ℕ) (w : Bytes) (q : Progress) (w' : Bytes) : Type 0 where
+  pub number : q ≡ with_top p base
+  pub area : w' ≡ over w base (zeros (p.top - base))
+
 -- a refusal: some state and some stack stand in the area, and the remarks met are es
 pub record Stopped (S : Schema) (R : Round) (n : ℕ) (es : List Remark) (p : Progress) (w : Bytes) : Type 0 where
   pub state : State
@@ -108,6 +124,24 @@ pub record Stopped (S : Schema) (R : Round) (n : ℕ) (es : List Remark) (p : Pr
 pub data Ans (X : Type 0) : Type 0 where
   gives : X → Progress → Ans X
   refuses : ℕ → Progress → Ans X
+
+-- the code's answer, with the numbers that it left
+abbrev pub answered : {X : Type 0} → Result X Refusal → Progress → Ans X
+answered (Ok x) p = gives x p
+answered (Err e) p = refuses (number_of e) p
+
+-- the numbers with a cost charged, or refusal 9
+abbrev pub paid_in : ℕ → Progress → ℕ → Result Progress Refusal
+paid_in cap p cost = cond (leb (p.charge + cost) cap) (Ok (with_paid p (p.charge + cost))) (Err Charge)
+
+-- the charge paid, or refusal 9
+abbrev pub paid_is : Round → Progress → ℕ → Ans (Unit {0})
+paid_is R p cost = cond (leb (p.charge + cost) R.cap) (gives tt (with_paid p (p.charge + cost))) (refuses 9 p)
+
+-- it is paid, or refused
+pub record Pays (R : Round) (n : ℕ) (p : Progress) (w : Bytes) (cost : ℕ) (r : Ans (Unit {0})) (w' : Bytes) : Type 0 where
+  pub answer : r ≡ paid_is R p cost
+  pub area : w' ≡ w
 
 -- the code's answer and the area that it left are the definition's; what it made gives the stack
 abbrev pub Meets : {A X : Type 0} → Schema → Round → ℕ → (A → Bytes) → (A → X → Type 0) → Out A → Ans X → Bytes → Type 0
@@ -122,14 +156,14 @@ pub record Finds (w : Bytes) (n name need : ℕ) (r : Spot) : Type 0 where
   pub start : r.start ≤ 0x100000
   pub is : (r.before ≡ (spot name need (blocks_in w 0 n)).before) × (r.start ≡ (spot name need (blocks_in w 0 n)).start)
 
+-- where an item of the name with `need` bytes goes, if its pointer has room for the block's number and the start; else refusal 10
+abbrev pub Places : Bytes → ℕ → ℕ → ℕ → Result Spot Refusal → Type 0
+Places w n name need (Ok r) = Finds w n name need r × (r.before < 4095) × (r.start ≤ 0xFFFFF)
+Places w n name need (Err e) = (r : Spot) × Finds w n name need r × (r.before < 4095 → 0xFFFFF < r.start) × (e ≡ BlockLimit)
+
 -- how many blocks there are with an item in the block behind k others
 abbrev pub blocks_with : ℕ → ℕ → ℕ
 blocks_with n k = cond (ltb k n) n (k + 1)
-
--- an item's pointer, or refusal 10
-abbrev pub laid_is : Laid → Ans ℕ
-laid_is (At x p) = gives x p
-laid_is (Refused k p) = refuses k p
 
 -- what laying an item of `len` bytes did to the numbers, the stack's top being `to` then
 pub record Larger (p : Progress) (len to : ℕ) (q : Progress) : Type 0 where

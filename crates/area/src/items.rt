@@ -1,10 +1,11 @@
 // Laid items: each goes to the first block of its name with room, else to a new last block.
 ghost use Rattle.std.specs.Prelude.{◌≡◌, ◌+◌, ◌*◌, ◌≤◌, ◌<◌, ◌^◌, length};
 ghost use Rattle.area.specs.Area.{items_at, stack_at, with_item, headed};
-ghost use Rattle.area.specs.Posts.{Safe, Finds, blocks_with, laid_is, Lays, LaysText};
+ghost use Rattle.area.specs.Posts.{Finds, Places, blocks_with};
 
 use crate::stack::shift;
-use crate::{Laid, Progress, Round, Spot, write_four, write_two};
+use crate::{Area, Progress, Spot, write_four, write_two};
+use numbers::refusal::Refusal;
 use numbers::words::{copy, read};
 
 // The first of the n blocks that has the name and room for `need` bytes; else behind the last.
@@ -38,67 +39,64 @@ fn put_head(work: &mut [u8], end: usize, name: u32, before: usize, start: usize,
     write_four(work, end, (before + 1) as u32, start as u32, len as u32, 0);
 }
 
-// The numbers with an item more.
-fn filed(p: Progress, before: usize, end: usize, top: usize) -> Progress
-    requires { before < 4095 }
-    ensures { result ≡ with_item p (blocks_with p.blocks before) end top }
-{
-    let mut q = p;
-    q.end = end;
-    q.top = top;
-    if before < p.blocks {
-        return q;
+impl Progress {
+    // The numbers with an item more.
+    fn filed(self, before: usize, end: usize, top: usize) -> Progress
+        requires { before < 4095 }
+        ensures { result ≡ with_item self (blocks_with self.blocks before) end top }
+    {
+        let mut q = self;
+        q.end = end;
+        q.top = top;
+        if before < self.blocks {
+            return q;
+        }
+        q.blocks = before + 1;
+        q
     }
-    q.blocks = before + 1;
-    q
 }
 
-// Lays the top `len` bytes of the stack as an item of the name.
-pub fn lay(work: &mut [u8], round: Round, p: Progress, name: u32, len: usize) -> Laid
-    requires safe { Safe round (length work.old) p }
-    requires len_bound { (p.end + (16 + len) ≤ items_at round + p.charge) × (stack_at round + len ≤ p.top) }
-    ensures { Lays round (length work.old) p work.old name len (laid_is result) work.new }
-{
-    let at = spot(work, p.blocks, name, len);
-    let k = at.before;
-    let start = at.start;
-    if 4095 <= k {
-        return Laid::Refused(10, p);
-    }
-    if 0xFFFFF < start {
-        return Laid::Refused(10, p);
-    }
-    let end = p.end;
-    let from = p.top - len;
-    put_head(work, end, name, k, start, len);
-    shift(work, from, end + 16, len);
-    Laid::At(
-        (k + 1 + start * 4096) as u32,
-        filed(p, k, end + (16 + len), from),
-    )
-}
+impl Area<'_> {
+    ghost use Rattle.area.specs.Steps.{Lays, LaysText};
 
-// Lays a text with its closing zero byte.
-pub fn lay_text(work: &mut [u8], round: Round, p: Progress, text: &[u8]) -> Laid
-    requires safe { Safe round (length work.old) p }
-    requires text_bound { p.end + (16 + (length text.now + 1)) ≤ items_at round + p.charge }
-    ensures { LaysText round (length work.old) p work.old text.now (laid_is result) work.new }
-{
-    let n = text.len();
-    let at = spot(work, p.blocks, 1, n + 1);
-    let k = at.before;
-    let start = at.start;
-    if 4095 <= k {
-        return Laid::Refused(10, p);
+    // Where an item of the name with `need` bytes goes; refused where the block's number or the start would be too large.
+    fn place(&self, name: u32, need: usize) -> Result<Spot, Refusal>
+        requires { need < 2 ^ 40 }
+        ensures { Places self.now.bytes.now self.now.progress.blocks name need result }
+    {
+        let at = spot(self.bytes, self.progress.blocks, name, need);
+        if 4095 <= at.before || 0xFFFFF < at.start {
+            return Err(Refusal::BlockLimit);
+        }
+        Ok(at)
     }
-    if 0xFFFFF < start {
-        return Laid::Refused(10, p);
+
+    // Lays the top `len` bytes of the stack as an item of the name.
+    pub fn lay(&mut self, name: u32, len: usize) -> Result<u32, Refusal>
+        requires { (self.old.progress.end + (16 + len) ≤ items_at self.old.round + self.old.progress.charge)
+            × (stack_at self.old.round + len ≤ self.old.progress.top) }
+        ensures { Lays self.old name len result self.new }
+    {
+        let p = self.progress;
+        let Spot { before, start } = self.place(name, len)?;
+        let from = p.top - len;
+        put_head(self.bytes, p.end, name, before, start, len);
+        shift(self.bytes, from, p.end + 16, len);
+        self.progress = p.filed(before, p.end + (16 + len), from);
+        Ok((before + 1 + start * 4096) as u32)
     }
-    let end = p.end;
-    put_head(work, end, 1, k, start, n + 1);
-    copy(work, end + 16, text);
-    Laid::At(
-        (k + 1 + start * 4096) as u32,
-        filed(p, k, end + (16 + (n + 1)), p.top),
-    )
+
+    // Lays a text with its closing zero byte.
+    pub fn lay_text(&mut self, text: &[u8]) -> Result<u32, Refusal>
+        requires { self.old.progress.end + (16 + (length text.now + 1)) ≤ items_at self.old.round + self.old.progress.charge }
+        ensures { LaysText self.old text.now result self.new }
+    {
+        let p = self.progress;
+        let n = text.len();
+        let Spot { before, start } = self.place(1, n + 1)?;
+        put_head(self.bytes, p.end, 1, before, start, n + 1);
+        copy(self.bytes, p.end + 16, text);
+        self.progress = p.filed(before, p.end + (16 + (n + 1)), p.top);
+        Ok((before + 1 + start * 4096) as u32)
+    }
 }

@@ -4,7 +4,7 @@ ghost use Rattle.layout.specs.State;
 ghost use Rattle.area.specs.Rows.{row_in, rows_in};
 ghost use Rattle.area.specs.Posts.{Safe, Notes};
 
-use crate::{Progress, Round, write_four};
+use crate::{Area, Progress, Round, write_four};
 use layout::Remark;
 use numbers::words::read;
 
@@ -25,7 +25,7 @@ pub fn row_at(work: &[u8], at: usize) -> Remark
     }
 }
 
-// Equal in all four numbers.
+// Equal in all four numbers: by value, as document 01 has it.
 pub fn same(q: Remark, r: Remark) -> bool
     ensures { result ≡ State.same_remark q r }
 {
@@ -45,6 +45,7 @@ fn remarked(work: &[u8], n: usize, r: Remark) -> bool
     false
 }
 
+// Also for numbers that are not in order afterwards, unlike `Area::note`.
 // A remark is met: kept as a row, unless it stands there, belongs to an earlier round, or the rows are full.
 pub fn note(work: &mut [u8], round: Round, p: Progress, r: Remark) -> Progress
     requires { Safe round (length work.old) p }
@@ -72,4 +73,16 @@ pub fn note(work: &mut [u8], round: Round, p: Progress, r: Remark) -> Progress
     }
     q.next = p.next + 1;
     q
+}
+
+impl Area<'_> {
+    ghost use Rattle.area.specs.Steps;
+
+    // A remark is met, where the charge pays for it.
+    pub fn note(&mut self, r: Remark)
+        requires { self.old.progress.seen < 65536 * self.old.progress.charge }
+        ensures { Steps.Notes self.old r self.new }
+    {
+        self.progress = note(self.bytes, self.round, self.progress, r);
+    }
 }

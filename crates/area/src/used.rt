@@ -1,12 +1,10 @@
 // Used definitions: each name once, by first use.
-ghost use Rattle.std.specs.Prelude.{◌≡◌, ◌+◌, ◌*◌, ◌≤◌, length, is_some};
-ghost use Rattle.schema.specs.Defs.{winning};
+ghost use Rattle.std.specs.Prelude.{◌≡◌, ◌+◌, ◌*◌, ◌≤◌, length};
 ghost use Rattle.layout.specs.State;
 ghost use Rattle.area.specs.Rows.{names_in};
-ghost use Rattle.area.specs.Area.{started_in, used_in};
-ghost use Rattle.area.specs.Posts.{Safe, Inserts, struct_in, enum_in, Marks};
+ghost use Rattle.area.specs.Posts.{Inserts};
 
-use crate::{Progress, Round};
+use crate::Area;
 use numbers::words::{read, write_u32};
 
 // Whether the name is one of the n at `at`.
@@ -37,32 +35,34 @@ fn insert(work: &mut [u8], at: usize, n: usize, room: usize, name: u32) -> usize
     n + 1
 }
 
-// A structure is started: its definition is used.
-pub fn use_struct(work: &mut [u8], round: Round, p: Progress, name: u32) -> Progress
-    requires { Safe round (length work.old) p }
-    ensures marks { Marks round (length work.old) p work.old (λ S. is_some ((winning S).struct name)) (started_in name) result work.new }
-    ensures work_after { (result, work.new) ≡ struct_in round p work.old name }
-{
-    let n = insert(work, 65536, p.structs, round.entries, name);
-    let mut q = p;
-    q.structs = n;
-    q
-}
+impl Area<'_> {
+    ghost use Rattle.area.specs.Steps.{UsesStruct, UsesEnum};
 
-// An enum is used.
-pub fn use_enum(work: &mut [u8], round: Round, p: Progress, name: u32) -> Progress
-    requires { Safe round (length work.old) p }
-    ensures marks { Marks round (length work.old) p work.old (λ S. is_some ((winning S).enum name)) (used_in name) result work.new }
-    ensures work_after { (result, work.new) ≡ enum_in round p work.old name }
-{
-    let n = insert(
-        work,
-        65536 + 4 * round.entries,
-        p.enums,
-        round.entries,
-        name,
-    );
-    let mut q = p;
-    q.enums = n;
-    q
+    // A structure is started: its definition is used. `use_enum` is the same of another segment and another number: a kind handed in would be
+    // asked for both.
+    pub fn use_struct(&mut self, name: u32)
+        ensures { UsesStruct self.old name self.new }
+    {
+        self.progress.structs = insert(
+            self.bytes,
+            65536,
+            self.progress.structs,
+            self.round.entries,
+            name,
+        );
+    }
+
+    // An enum is used.
+    pub fn use_enum(&mut self, name: u32)
+        ensures { UsesEnum self.old name self.new }
+    {
+        let entries = self.round.entries;
+        self.progress.enums = insert(
+            self.bytes,
+            65536 + 4 * entries,
+            self.progress.enums,
+            entries,
+            name,
+        );
+    }
 }
