@@ -1,5 +1,5 @@
 -- What is stored in a cell. Assumes nothing.
-use Rattle.std.specs.Prelude.{Option, Some, None, is_some, unwrap_or, ok_or, option_map, Ok, Err}
+use Rattle.std.specs.Prelude.{Option, Some, None, is_some, unwrap_or, option_map, Ok, Err}
 use Prim.Native.Nat.{ℕ, zero, suc, ◌+◌, ◌-◌, ◌≤◌}
 use native.Mathlib.Omega.{arith}
 use mathlib.Core.Path.{◌≡◌, refl, sym, ap}
@@ -7,7 +7,7 @@ use mathlib.Core.Bool.{Bool, true, false, not}
 use mathlib.Core.List.{List, [], ◌∷◌}
 use lib.ListN.{length, take, get_or}
 use Rattle.numbers.specs.Words.{Bytes, bytes_of, words, over}
-use Rattle.coerce.specs.Numbers.{Fit, fit_or, map_fit}
+use Rattle.coerce.specs.Numbers.{fit_or}
 use Rattle.coerce.specs.declared.misfit.Misfit.TheVariants.{Unfit}
 use Rattle.layout.proofs.Fewer.{over_nil}
 use Rattle.area.proofs.Over.{words_one, words_behind}
@@ -63,8 +63,3 @@ module _ (len : ℕ) (b : Bytes) (off : ℕ) where
   text_empty (Some x) r e h l =
       let k : len - 1 ≡ 0 = omega arith in
       rw (k) (sym (over_nil b off))
-
--- ---- a hash that is there or not
-pub put_hash : (o : Option ℕ) (b : Bytes) (off : ℕ) (r : Fit (Unit {0})) (c : Bytes) → Puts (map_fit (bytes_of 4) (ok_or o Unfit)) b off r c → Puts (fit_or (option_map (bytes_of 4) o) (Err Unfit)) b off r c
-put_hash None b off r c h = h
-put_hash (Some x) b off r c h = h

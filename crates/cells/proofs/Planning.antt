@@ -22,12 +22,13 @@ use Rattle.layout.specs.Kinds as Kinds
 use Rattle.layout.specs.Members.{leaves, is_pointer_text, is_hash_text, enum_size, fixed_member, pointer_member, hash_member, text_member, enum_member, flags_member, reference_at, high16, low12}
 use Rattle.area.specs.declared.Round.{Round}
 use Rattle.area.specs.Area.{env_of}
+use Rattle.area.specs.declared.fault.Fault.TheVariants as Faults
 use Rattle.cells.specs.declared.defs.Def.{Def}
 use Rattle.cells.specs.declared.Cell.TheVariants as C
 use Rattle.cells.specs.declared.plan.Plan.{Plan}
 use Rattle.cells.specs.declared.plan.Plan.TheVariants as P
 use Rattle.cells.specs.Names.{def_of, member_of, EntriesOf, Named}
-use Rattle.names.specs.Entries.{all_of}
+use Rattle.names.specs.Entries.{NoEntries}
 use Rattle.names.specs.declared.entries.Entries.{Entries}
 use Rattle.cells.specs.Cells.{Sane, cell_size, scalar_cell}
 use Rattle.cells.specs.Plans.{named_member, plain_member}
@@ -124,7 +125,7 @@ module _ (F : Bytes) (d : Def) (m : coded.Member) where
     is = λ T R S y v buf s. ap (λ (x : M Bytes). x s) (hashed_is T R S v buf h g) ∙ hash_cell T S R D e v buf s;
   }
 
-  pub text_strange : 4 ≤ m.subtype → (m.subtype < 7) ⊎ (9 ≤ m.subtype) → Plans F d m text_member (λ y. y ≡ text_plan m) (P.Remark 3 m.subtype)
+  pub text_strange : 4 ≤ m.subtype → (m.subtype < 7) ⊎ (9 ≤ m.subtype) → Plans F d m text_member (λ y. y ≡ text_plan m) (P.Remark Faults.StringSubtype m.subtype)
   text_strange h g = record {
     exact = let t = strange_tests h g in rw (t.0, t.1, t.2);
     order = tt;
@@ -187,20 +188,20 @@ module _ (F : Bytes) (d : Def) (m : coded.Member) where
     plan_left (inr (inl z)) = planned_as P.Nothing (rw z (record { exact = refl; order = tt; knows = λ S y. tt; is = λ T R S y v buf s. refl }))
     plan_left (inr (inr z)) = planned_as P.Nothing (rw z (record { exact = refl; order = tt; knows = λ S y. tt; is = λ T R S y v buf s. refl }))
 
-    pub plan_other : k ≡ Kinds.other → PlansKind F d m (Kinds.kind_of m.kind) (P.Remark 13 m.kind)
+    pub plan_other : k ≡ Kinds.other → PlansKind F d m (Kinds.kind_of m.kind) (P.Remark Faults.MemberType m.kind)
     unfolding plain_member IsPlan
-    plan_other z = planned_as (P.Remark 13 m.kind) (rw z (record { exact = refl; order = tt; knows = λ S y. tt; is = λ T R S y v buf s. refl }))
+    plan_other z = planned_as (P.Remark Faults.MemberType m.kind) (rw z (record { exact = refl; order = tt; knows = λ S y. tt; is = λ T R S y v buf s. refl }))
 
 -- ---- the enum h and its entries
 module _ (F : Bytes) (h : ℕ) (f : Option ℕ) (place : f ≡ last_place F 1 h) (found : (S : Schema) → schema_of F ≡ ok S → (winning S).enum h ≡ enum_found F h f) (e : Entries) where
   -- it is not there
-  pub named_none : f ≡ None → all_of e ≡ [] → Named F h e None
+  pub named_none : f ≡ None → NoEntries F e → Named F h e None
   named_none z a = record {
     known = let q : last_place F 1 h ≡ None = sym place ∙ z in rw q;
     there = λ at q. let r : ◌≡◌ {A = Option ℕ} None (Some at) = sym z ∙ place ∙ q in cc;
     missing = λ q. a;
     used = λ S y. ap is_some (found S y ∙ ap (enum_found F h) z);
-    all = λ S y. ap (λ (o : Option Defs.EnumDef). unwrap_or (option_map (λ x. x.entries) o) []) (found S y ∙ ap (enum_found F h) z) ∙ sym a;
+    all = λ S y. ap (λ (o : Option Defs.EnumDef). unwrap_or (option_map (λ x. x.entries) o) []) (found S y ∙ ap (enum_found F h) z) ∙ sym a.all;
   }
 
   -- it is there

@@ -1,8 +1,8 @@
 -- The code's definitions, members and kinds in the terms of the definitions.
-use Rattle.std.specs.Prelude.{ℕ, ◌≡◌, ◌+◌, min, length, [], Option, Some, None, is_some, option_map}
+use Rattle.std.specs.Prelude.{ℕ, ◌≡◌, ◌+◌, min, length, Option, Some, None, is_some, option_map}
 use Rattle.numbers.specs.Words.{Bytes, read_at}
 use Rattle.numbers.specs.Result.{ok}
-use Rattle.names.specs.Entries.{all_of}
+use Rattle.names.specs.Entries.{all_of, NoEntries}
 use Rattle.names.specs.declared.entries.Entries.{Entries}
 use Rattle.schema.specs.Defs
 use Rattle.schema.specs.Defs.{Schema, winning}
@@ -38,7 +38,7 @@ pub record EntriesOf (F : Bytes) (place : ℕ) (e : Entries) : Type 0 where
 pub record Named (F : Bytes) (h : ℕ) (e : Entries) (name : Option ℕ) : Type 0 where
   pub known : name ≡ option_map (λ at. h) (last_place F 1 h)
   pub there : (at : ℕ) → last_place F 1 h ≡ Some at → EntriesOf F at e
-  pub missing : last_place F 1 h ≡ None → all_of e ≡ []
+  pub missing : last_place F 1 h ≡ None → NoEntries F e
   -- what the schema says of it
   pub used : (S : Schema) → schema_of F ≡ ok S → is_some ((winning S).enum h) ≡ is_some name
   pub all : (S : Schema) → schema_of F ≡ ok S → entries_of (winning S) h ≡ all_of e

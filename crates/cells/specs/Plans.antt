@@ -15,6 +15,8 @@ use Rattle.layout.specs.Kinds as Kinds
 use Rattle.layout.specs.Kinds.{Scalar, Kind, size_of}
 use Rattle.layout.specs.Members as members
 use Rattle.layout.specs.Members.{high16, low12, reference_at, is_pointer_text, is_hash_text, enum_size, leaves, pointer_member, text_member}
+use Rattle.area.specs.Fault.{fault_number}
+use Rattle.area.specs.declared.fault.Fault.TheVariants as Faults
 use Rattle.area.specs.declared.Round.{Round}
 use Rattle.area.specs.Area.{env_of}
 use Rattle.cells.specs.declared.defs.Def.{Def}
@@ -60,7 +62,7 @@ fixed_plan reference = P.Store (C.Fixed (high16 reference)) (high16 reference) N
 abbrev pub text_plan : coded.Member → Plan
 text_plan m =
     cond (eqb m.subtype 0) (fixed_plan m.reference)
-    (cond (is_pointer_text m.subtype) P.Pointer (cond (is_hash_text m.subtype) (P.Store C.Hash 4 None) (P.Remark 3 m.subtype)))
+    (cond (is_pointer_text m.subtype) P.Pointer (cond (is_hash_text m.subtype) (P.Store C.Hash 4 None) (P.Remark Faults.StringSubtype m.subtype)))
 
 -- flags or an enum in k bytes, by the entries of the enum that building finds under the name h, in any file
 abbrev pub NamedPlan : Bytes → (Entries → ℕ → Cell) → ℕ → ℕ → Plan → Type 0
@@ -75,21 +77,21 @@ IsPlan F d m Kinds.flags r = NamedPlan F C.Flags (enum_size m.subtype) (referenc
 IsPlan F d m Kinds.structure r = r ≡ P.Nothing
 IsPlan F d m Kinds.array r = r ≡ P.Nothing
 IsPlan F d m Kinds.map r = r ≡ P.Nothing
-IsPlan F d m Kinds.other r = r ≡ P.Remark 13 m.kind
+IsPlan F d m Kinds.other r = r ≡ P.Remark Faults.MemberType m.kind
 
 -- what a plan stands for, over the sheet T
 abbrev pub planned : Bytes → Env → Plan → StructDef → Defs.Member → Value → Bytes → M Bytes
 planned T E (P.Store c size name) d e v buf = cell_member E size (cell_bytes T c) name d e v buf
 planned T E P.Pointer d e v buf = pointer_member E d e v buf
 planned T E P.Nothing d e v buf = ret buf
-planned T E (P.Remark kind detail) d e v buf = leaves d e kind detail buf
+planned T E (P.Remark fault detail) d e v buf = leaves d e (fault_number fault) detail buf
 
 -- a cell's numbers are in order, and its size is below 2 ^ 40
 abbrev pub InOrder : Plan → Type 0
 InOrder (P.Store c size name) = Sane c × (cell_size c ≡ size) × (size < 2 ^ 40)
 InOrder P.Pointer = Unit {0}
 InOrder P.Nothing = Unit {0}
-InOrder (P.Remark kind detail) = Unit {0}
+InOrder (P.Remark fault detail) = Unit {0}
 
 -- an enum that is taken as known is there
 abbrev pub Known : Option ℕ → Schema → Type 0
@@ -100,7 +102,7 @@ abbrev pub Knows : Schema → Plan → Type 0
 Knows S (P.Store c size name) = Known name S
 Knows S P.Pointer = Unit {0}
 Knows S P.Nothing = Unit {0}
-Knows S (P.Remark kind detail) = Unit {0}
+Knows S (P.Remark fault detail) = Unit {0}
 
 -- the plan r is as x says, and does what f, the member's definition, does
 pub record Plans (F : Bytes) (d : Def) (m : coded.Member) (f : Env → StructDef → Defs.Member → Value → Bytes → M Bytes) (x : Plan → Type 0) (r : Plan) : Type 0 where

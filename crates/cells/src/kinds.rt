@@ -22,6 +22,7 @@ pub enum Kind {
 pub fn kind_of(ty: u8) -> Kind
     ensures { kind_is result ≡ Kinds.kind_of ty }
 {
+    // By ranges of the byte itself, as document 01 has the type bytes.
     match ty {
         0x00..=0x02 => Kind::Integer(1),
         0x03 | 0x04 | 0x1E => Kind::Integer(2),

@@ -3,9 +3,8 @@
 #![tactic(auto)]
 
 ghost use Rattle.std.specs.Prelude.{◌≡◌, ◌+◌, ◌*◌, ◌≤◌, length, take};
-ghost use Rattle.numbers.specs.Words.{bytes_of, words, over};
-ghost use Rattle.coerce.specs.Numbers.{map_fit};
-ghost use Rattle.cells.specs.Cells.{cell_bytes, cell_size, Sane, Puts, vec_fit, text_fit};
+ghost use Rattle.numbers.specs.Words.{words, over};
+ghost use Rattle.cells.specs.Cells.{cell_bytes, cell_size, Sane, Puts, text_fit};
 
 use area::{write_four, write_two};
 use coerce::misfit::Misfit;
@@ -22,6 +21,8 @@ pub mod defs;
 pub mod kinds;
 pub mod plan;
 
+// Widths are numbers of bytes and not names: `write` takes them, and offsets are counted with them.
+// That they are in order (`Sane`) is asked by contracts, since an enum has no ghost field.
 // An integer of so many bytes, an f32, a vector, a hash, an enum's value or flags by entries in so many bytes, a text in so many bytes.
 #[derive(Clone, Copy)]
 pub enum Cell<'a> {
@@ -32,23 +33,6 @@ pub enum Cell<'a> {
     Enum(Entries<'a>, usize),
     Flags(Entries<'a>, usize),
     Fixed(usize),
-}
-
-// A number in k bytes.
-fn put_number(buf: &mut [u8], off: usize, k: usize, x: Result<u64, Misfit>) -> Result<(), Misfit>
-    requires { (k ≤ 8) × (off + k ≤ length buf.old) }
-    ensures { Puts (map_fit (bytes_of k) x) buf.old off result buf.new }
-{
-    write(buf, off, k, x?);
-    Ok(())
-}
-
-// 32 bits in k bytes.
-fn put_bits(buf: &mut [u8], off: usize, k: usize, x: Result<u32, Misfit>) -> Result<(), Misfit>
-    requires { (k ≤ 8) × (off + k ≤ length buf.old) }
-    ensures { Puts (map_fit (bytes_of k) x) buf.old off result buf.new }
-{
-    put_number(buf, off, k, x.map(u64::from))
 }
 
 // The first n of four numbers.
@@ -67,20 +51,6 @@ fn put_words(buf: &mut [u8], off: usize, n: usize, four: [u32; 4])
     }
 }
 
-// The first n numbers of a vector.
-fn put_vector(
-    buf: &mut [u8],
-    off: usize,
-    n: usize,
-    x: Result<[u32; 4], Misfit>,
-) -> Result<(), Misfit>
-    requires { (2 ≤ n) × (n ≤ 4) × (off + 4 * n ≤ length buf.old) }
-    ensures { Puts (vec_fit n x) buf.old off result buf.new }
-{
-    put_words(buf, off, n, x?);
-    Ok(())
-}
-
 // A text in len bytes: all of them but the last at most are written; what is longer is cut.
 fn put_text(sheet: &[u8], buf: &mut [u8], off: usize, len: usize, v: Row) -> Result<(), Misfit>
     requires { off + len ≤ length buf.old }
@@ -97,6 +67,7 @@ fn put_text(sheet: &[u8], buf: &mut [u8], off: usize, len: usize, v: Row) -> Res
 }
 
 // A row as the cell wants it, stored at off.
+#[tactic(auto, unfolding(crate::specs::Cells::cell_bytes))]
 pub fn put_cell(
     sheet: &[u8],
     buf: &mut [u8],
@@ -108,12 +79,19 @@ pub fn put_cell(
     ensures { Puts (cell_bytes sheet.now cell.entry v) buf.old off result buf.new }
 {
     match cell {
-        Cell::Integer(k) => put_number(buf, off, k, int_of(sheet, v)),
-        Cell::Single => put_bits(buf, off, 4, float_of(sheet, v)),
-        Cell::Vector(n) => put_vector(buf, off, n, vec_of(sheet, v, n)),
-        Cell::Hash => put_bits(buf, off, 4, hash_of(sheet, v).ok_or(Misfit::Unfit)),
-        Cell::Enum(entries, k) => put_bits(buf, off, k, enum_value(sheet, entries, v)),
-        Cell::Flags(entries, k) => put_bits(buf, off, k, flags_bits(sheet, entries, 64, v)),
-        Cell::Fixed(len) => put_text(sheet, buf, off, len, v),
+        Cell::Integer(k) => write(buf, off, k, int_of(sheet, v)?),
+        Cell::Single => write(buf, off, 4, u64::from(float_of(sheet, v)?)),
+        Cell::Vector(n) => put_words(buf, off, n, vec_of(sheet, v, n)?),
+        Cell::Hash => {
+            let hash = hash_of(sheet, v).ok_or(Misfit::Unfit)?;
+            write(buf, off, 4, u64::from(hash));
+        }
+        Cell::Enum(entries, k) => write(buf, off, k, u64::from(enum_value(sheet, entries, v)?)),
+        Cell::Flags(entries, k) => {
+            let bits = flags_bits(sheet, entries, 64, v)?;
+            write(buf, off, k, u64::from(bits));
+        }
+        Cell::Fixed(len) => put_text(sheet, buf, off, len, v)?,
     }
+    Ok(())
 }

@@ -6,6 +6,7 @@ ghost use Rattle.cells.specs.Plans.{scalar_plan, fixed_plan, PlansText, PlansKin
 
 use crate::Cell;
 use crate::defs::{Def, high_half, named, reference_at};
+use area::fault::Fault;
 use definitions::members::Member;
 
 // A cell of so many bytes, with the name of its enum where that one is known; a text by pointer; nothing; a kind of remark, with its detail.
@@ -14,7 +15,7 @@ pub enum Plan<'a> {
     Store(Cell<'a>, usize, Option<u32>),
     Pointer,
     Nothing,
-    Remark(u32, u32),
+    Remark(Fault, u32),
 }
 
 // How many bytes an enum or flags member has.
@@ -59,7 +60,7 @@ fn text<'a>(m: Member) -> Plan<'a>
         0 => fixed(m.reference),
         1..=3 => Plan::Pointer,
         7 | 8 => Plan::Store(Cell::Hash, 4, None),
-        sub => Plan::Remark(3, u32::from(sub)),
+        sub => Plan::Remark(Fault::StringSubtype, u32::from(sub)),
     }
 }
 
@@ -68,6 +69,7 @@ pub fn plan_of(schema: &[u8], d: Def, m: Member) -> Plan<'_>
     ensures { PlansKind schema.now d m (Kinds.kind_of m.kind) result }
 {
     let ty = m.kind;
+    // Over the type byte and not over `kind_of`: document 01 names this match (docs/DECISIONS.md, 18).
     match ty {
         0x00..=0x02 => whole(1),
         0x03 | 0x04 | 0x1E => whole(2),
@@ -89,6 +91,6 @@ pub fn plan_of(schema: &[u8], d: Def, m: Member) -> Plan<'_>
             Plan::Store(Cell::Flags(entries, size), size, name)
         }
         0x20 => whole(8),
-        _ => Plan::Remark(13, u32::from(ty)),
+        _ => Plan::Remark(Fault::MemberType, u32::from(ty)),
     }
 }

@@ -1,5 +1,5 @@
 -- What is chosen before a structure is written. Assumes nothing.
-use Rattle.std.specs.Prelude.{Option, Some, None, is_some}
+use Rattle.std.specs.Prelude.{Option, Some, None, is_some, option_map}
 use mathlib.Core.Path.{◌≡◌, sym, ap, ◌∙◌}
 use Rattle.std.specs.Option.{option_or}
 use Rattle.std.proofs.lemmas.Option.{same_Some}
@@ -24,8 +24,7 @@ use Rattle.area.specs.Area.{env_of}
 use Rattle.cells.specs.declared.defs.Def.{Def}
 use Rattle.cells.specs.Names.{def_of, member_of}
 use Rattle.members.specs.Names.{looked_is, looked_up}
-use Rattle.choices.specs.Sources.{info_is, own_up, Owned}
-use Rattle.choices.specs.declared.choose.Info.TheVariants as I
+use Rattle.choices.specs.Sources.{own_up, Owned}
 use Rattle.choices.proofs.Nths.{count_members, nth_read, nth_past}
 
 -- ---- an element descriptor
@@ -44,16 +43,16 @@ module _ (F : Bytes) (d : Def) (m : coded.Member) where
   by_low b e = ap (λ (k : ℕ). there (cond (ltb low k) low less)) (count_members F d) ∙ ap (λ (x : Bool). there (cond x low less)) e
 
   -- by the low 16 bits
-  pub info_low : (x : coded.Member) → low < d.count → x ≡ member_is (member_at F (d.place + 12 + 12 * low)) → info_is (I.At x) ≡ array_info (def_of F d) (member_of m)
+  pub info_low : (x : coded.Member) → low < d.count → x ≡ member_is (member_at F (d.place + 12 + 12 * low)) → option_map member_of (Some x) ≡ array_info (def_of F d) (member_of m)
   info_low x t e = sym (by_low true (lt-ltb low d.count t) ∙ nth_read F d low x e t)
 
   -- by the low 12 bits
   pub info_less : (x : coded.Member) → d.count ≤ low → less < d.count → x ≡ member_is (member_at F (d.place + 12 + 12 * less))
-      → info_is (I.At x) ≡ array_info (def_of F d) (member_of m)
+      → option_map member_of (Some x) ≡ array_info (def_of F d) (member_of m)
   info_less x f t e = sym (by_low false (le-ltb low d.count f) ∙ nth_read F d less x e t)
 
   -- there is none
-  pub info_none : d.count ≤ low → d.count ≤ less → info_is I.Missing ≡ array_info (def_of F d) (member_of m)
+  pub info_none : d.count ≤ low → d.count ≤ less → option_map member_of None ≡ array_info (def_of F d) (member_of m)
   info_none f g = sym (by_low false (le-ltb low d.count f) ∙ nth_past F d less g)
 
 -- ---- a row's own type

@@ -15,15 +15,13 @@ use Rattle.layout.specs.Members.{need, leaves}
 use Rattle.area.specs.declared.Round.{Round}
 use Rattle.area.specs.declared.Progress.{Progress}
 use Rattle.area.specs.Area.{stack_at, Rep, with_top}
-use Rattle.area.specs.Posts.{Safe, Open, Notes, Meets}
+use Rattle.area.specs.Posts.{Safe, Open, Notes, Fell, Meets, gives}
 use Rattle.area.proofs.Over.{length_over}
 use Rattle.area.proofs.Reps.{rep_pop, rep_shift}
 use Rattle.cells.specs.declared.defs.Def.{Def}
 use Rattle.cells.specs.Names.{def_of, member_of}
-use Rattle.members.specs.declared.Wrote.TheVariants.{Done}
-use Rattle.members.specs.Posts.{remark_on, wrote_is}
+use Rattle.members.specs.Posts.{remark_on}
 use Rattle.members.proofs.Filling.{def_size, leaves_is, need_no, need_yes, went_noted}
-use Rattle.members.specs.Posts.{Fell}
 use Rattle.choices.specs.Posts.{Embeds}
 use Rattle.choices.proofs.Lodging.{top_within}
 
@@ -69,7 +67,7 @@ safe_pop R n p base safe low high = record {
 module _ (R : Round) (n base : ℕ) (q : Progress) (w : Bytes) (d : Def) (m : coded.Member) (safe : Safe R n q) (more : Open q) (low : stack_at R + d.size ≤ base) (high : base ≤ q.top) where
   -- the run is too long
   pub embeds_wide : (fit : Bool) (k : ℕ) (q' : Progress) (w' : Bytes) (t : Progress) (w'' : Bytes) → fit ≡ leb (m.offset + (q.top - base)) d.size → not fit ≡ true → Fell q base w q' w' → k ≡ n
-      → Notes R k q' w' (remark_on d m 1 d.size) t w'' → Embeds R n base q w d m (Done t) w''
+      → Notes R k q' w' (remark_on d m 1 d.size) t w'' → Embeds R n base q w d m (gives (tt {0}) t) w''
   embeds_wide fit k q' w' t w'' e f fell i h = record {
     grew = (
       (went_noted R n (with_top q base) w' (remark_on d m 1 d.size) t w'' (safe_pop R n q base safe (omega arith) high) more noted).0,
@@ -82,7 +80,7 @@ module _ (R : Round) (n base : ℕ) (q : Progress) (w : Bytes) (d : Def) (m : co
       noted = subst (λ (x : Progress). Notes R n x w' (remark_on d m 1 d.size) t w'') fell.number (subst (λ (x : ℕ). Notes R x q' w' (remark_on d m 1 d.size) t w'') i h)
 
       wide : (F : Bytes) (S : Schema) (s : State) (σ buf b : Bytes) → length buf ≡ d.size → base + length b ≡ q.top → Rep S R n s ((σ ++ buf) ++ b) q w
-          → Meets S R n (λ c. σ ++ c) (λ c x. length c ≡ d.size) (need (def_of F d) (member_of m) (length b) buf (ret (over buf m.offset b)) s) (wrote_is (Done t)) w''
+          → Meets S R n (λ c. σ ++ c) (λ c x. length c ≡ d.size) (need (def_of F d) (member_of m) (length b) buf (ret (over buf m.offset b)) s) (gives (tt {0}) t) w''
       wide F S s σ buf b l g rep =
           let k : length b ≡ q.top - base = omega arith in
           let v : leb (m.offset + length b) d.size ≡ false = ap (λ (x : ℕ). leb (m.offset + x) d.size) k ∙ sym e ∙ not-true fit f in
@@ -90,10 +88,6 @@ module _ (R : Round) (n base : ℕ) (q : Progress) (w : Bytes) (d : Def) (m : co
           rep_pop S R n (σ ++ buf) b (q.top - base) base rep (top_within R n q safe) (omega arith) k in
           rw (need_wide F d m (length b) buf (ret (over buf m.offset b)) s v)
           (noted.says S s (σ ++ buf) (subst (Rep S R n s (σ ++ buf) (with_top q base)) (sym fell.area) p), l)
-
-  -- then the numbers are in order
-  pub fell_safe : (k : ℕ) (q' : Progress) (w' : Bytes) → Fell q base w q' w' → k ≡ n → Safe R k q'
-  fell_safe k q' w' fell e = rw (e, fell.number) (safe_pop R n q base safe (omega arith) high)
 
   -- there is room for the move
   pub shift_room : (fit : Bool) (k : ℕ) → fit ≡ leb (m.offset + (q.top - base)) d.size → not fit ≡ false → k ≡ n
@@ -104,7 +98,7 @@ module _ (R : Round) (n base : ℕ) (q : Progress) (w : Bytes) (d : Def) (m : co
 
   -- it fits
   pub embeds_fits : (fit : Bool) (w' : Bytes) → fit ≡ leb (m.offset + (q.top - base)) d.size → not fit ≡ false
-      → w' ≡ over (over w (base - d.size + m.offset) (take (q.top - base) (drop base w))) base (zeros (q.top - base)) → Embeds R n base q w d m (Done (with_top q base)) w'
+      → w' ≡ over (over w (base - d.size + m.offset) (take (q.top - base) (drop base w))) base (zeros (q.top - base)) → Embeds R n base q w d m (gives (tt {0}) (with_top q base)) w'
   unfolding ret
   embeds_fits fit w' e f g = record {
     grew = (safe_pop R n q base safe (omega arith) high, record { end = refl; top = refl; charge = refl; seen = omega arith });
@@ -112,7 +106,7 @@ module _ (R : Round) (n base : ℕ) (q : Progress) (w : Bytes) (d : Def) (m : co
   }
     where
       moved : (F : Bytes) (S : Schema) (s : State) (σ buf b : Bytes) → length buf ≡ d.size → base + length b ≡ q.top → Rep S R n s ((σ ++ buf) ++ b) q w
-          → Meets S R n (λ c. σ ++ c) (λ c x. length c ≡ d.size) (need (def_of F d) (member_of m) (length b) buf (ret (over buf m.offset b)) s) (wrote_is (Done (with_top q base))) w'
+          → Meets S R n (λ c. σ ++ c) (λ c x. length c ≡ d.size) (need (def_of F d) (member_of m) (length b) buf (ret (over buf m.offset b)) s) (gives (tt {0}) (with_top q base)) w'
       moved F S s σ buf b l k rep =
           let j : length b ≡ q.top - base = omega arith in
           let v : leb (m.offset + length b) d.size ≡ true = ap (λ (x : ℕ). leb (m.offset + x) d.size) j ∙ sym e ∙ not-false fit f in

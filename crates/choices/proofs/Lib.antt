@@ -1,7 +1,6 @@
 -- Laws of the choices.
 pub mod Nths
 pub mod Naming
-pub mod NinthRemark
 pub mod Meeting
 pub mod Choosing
 pub mod Lodging

@@ -10,12 +10,8 @@ use Rattle.layout.specs.State.{State, ret, add_item}
 use Rattle.layout.specs.Members.{put_counted}
 use Rattle.area.specs.declared.Round.{Round}
 use Rattle.area.specs.declared.Progress.{Progress}
-use Rattle.area.specs.declared.Laid.{Laid}
-use Rattle.area.specs.declared.Laid.TheVariants as A
 use Rattle.area.specs.Area.{items_at, stack_at, Rep}
-use Rattle.area.specs.Posts.{Safe, Larger, Lays, laid_is, gives, refuses, Meets}
-use Rattle.members.specs.declared.Wrote.TheVariants.{Done, Refused}
-use Rattle.members.specs.Posts.{wrote_is}
+use Rattle.area.specs.Posts.{Safe, Larger, Lays, gives, refuses, Meets, Ans}
 use Rattle.members.proofs.Slotting.{length_counted, rep_counted}
 use Rattle.choices.specs.Posts.{Lodges}
 use Rattle.choices.proofs.Meeting.{meets_refused, meets_given}
@@ -44,7 +40,7 @@ safe_larger R n p q len safe room low g = record {
 
 module _ (R : Round) (n : ℕ) (q : Progress) (w : Bytes) (block len at count : ℕ) (safe : Safe R n q) where
   -- the item was refused
-  pub lodged_refused : (r : Laid) (k : ℕ) (t : Progress) (w' : Bytes) → Lays R n q w block len (laid_is r) w' → r ≡ A.Refused k t → Lodges R n q w block len at count (Refused k t) w'
+  pub lodged_refused : (r : Ans ℕ) (k : ℕ) (t : Progress) (w' : Bytes) → Lays R n q w block len r w' → r ≡ refuses k t → Lodges R n q w block len at count (refuses k t) w'
   lodged_refused r k t w' h e = record {
     grew = subst (Safe R n) (sym laid.grew.1) safe;
     says = λ S s σ buf b off l f g rep.
@@ -52,26 +48,26 @@ module _ (R : Round) (n : ℕ) (q : Progress) (w : Bytes) (block len at count : 
   }
     where
       laid : Lays R n q w block len (refuses k t) w'
-      laid = subst (λ (x : Laid). Lays R n q w block len (laid_is x) w') e h
+      laid = subst (λ (x : Ans ℕ). Lays R n q w block len x w') e h
 
   -- it was laid
-  pub lodged_done : (r : Laid) (x : ℕ) (t : Progress) (w' w'' : Bytes) → q.end + (16 + len) ≤ items_at R + q.charge → stack_at R ≤ at → at + 12 + len ≤ q.top
-      → Lays R n q w block len (laid_is r) w' → r ≡ A.At x t → w'' ≡ put_counted w' at x count → Lodges R n q w block len at count (Done t) w''
+  pub lodged_done : (r : Ans ℕ) (x : ℕ) (t : Progress) (w' w'' : Bytes) → q.end + (16 + len) ≤ items_at R + q.charge → stack_at R ≤ at → at + 12 + len ≤ q.top
+      → Lays R n q w block len r w' → r ≡ gives x t → w'' ≡ put_counted w' at x count → Lodges R n q w block len at count (gives (tt {0}) t) w''
   unfolding ret
   lodged_done r x t w' w'' room low high h e f = record {
     grew = (safe_t, laid.grew);
     says = λ S s σ buf b off l g k rep.
-        meets_given S R n (λ _. σ ++ buf) (λ a x. a ≡ x) (λ c. σ ++ c) (λ c x. length c ≡ length buf) (add_item block b) (λ p. ret (put_counted buf off p count)) s x t w' (wrote_is (Done t)) w'' (laid.says S s (σ ++ buf) b l rep)
+        meets_given S R n (λ _. σ ++ buf) (λ a x. a ≡ x) (λ c. σ ++ c) (λ c x. length c ≡ length buf) (add_item block b) (λ p. ret (put_counted buf off p count)) s x t w' (gives (tt {0}) t) w'' (laid.says S s (σ ++ buf) b l rep)
         (λ a s' rep' i. put S s' σ buf off g k a rep' i);
   }
     where
       laid : Lays R n q w block len (gives x t) w'
-      laid = subst (λ (y : Laid). Lays R n q w block len (laid_is y) w') e h
+      laid = subst (λ (y : Ans ℕ). Lays R n q w block len y w') e h
 
       safe_t : Safe R n t
       safe_t = safe_larger R n q t len safe room (omega arith) laid.grew
 
       put : (S : Schema) (s : State) (σ buf : Bytes) (off : ℕ) → stack_at R + length σ + off ≡ at → off + 12 ≤ length buf → (a : ℕ) → Rep S R n s (σ ++ buf) t w' → a ≡ x
-          → Meets S R n (λ c. σ ++ c) (λ c x. length c ≡ length buf) (ret (put_counted buf off a count) s) (wrote_is (Done t)) w''
+          → Meets S R n (λ c. σ ++ c) (λ c x. length c ≡ length buf) (ret (put_counted buf off a count) s) (gives (tt {0}) t) w''
       put S s σ buf off g k a rep i =
           rw (i, f) (rep_counted S R n σ buf off at x count rep (top_within R n t safe_t) k g, length_counted buf off x count k)

@@ -1,4 +1,4 @@
--- The values of a structure by name, and a pair's names. Assumes nothing.
+-- A pair's names. Assumes nothing.
 use Rattle.std.specs.Prelude.{Some, None}
 use mathlib.Core.Path.{◌≡◌, refl, sym, ap, ◌∙◌}
 use mathlib.Core.Bool.{Bool, true, false}
@@ -9,38 +9,11 @@ use borrow.Author.Tests.{eq-eqb, ne_eqb, eqb-true, eqb-false, ltb-true, ltb-fals
 use lib.Dec.{eqb, ltb}
 use lib.ListN.{length, drop}
 use Rattle.numbers.specs.Result.{nth}
-use Rattle.value.specs.Rows.{Fields, field_named}
+use Rattle.value.specs.Rows.{Fields}
 use Rattle.schema.specs.Defs.{Member, StructDef}
 use Rattle.layout.specs.Write.{ARRAYINFO, named, pair_fields}
 use Rattle.choices.specs.Sources.{NextNamed}
 use Rattle.choices.proofs.Nths.{nth_none}
-
--- of one value, or of two
-pub one_found : (a r name : ℕ) → a ≡ name → Some r ≡ field_named name ((a, r) ∷ [])
-unfolding field_named
-one_found a r name e = rw (eq-eqb a name e) refl
-
-pub one_missing : (a r name : ℕ) → (a ≡ name → ⊥) → None ≡ field_named name ((a, r) ∷ [])
-unfolding field_named
-one_missing a r name e = rw (ne_eqb a name e) refl
-
-pub first_found : (a r b s name : ℕ) → a ≡ name → Some r ≡ field_named name ((a, r) ∷ (b, s) ∷ [])
-unfolding field_named
-first_found a r b s name e = rw (eq-eqb a name e) refl
-
-pub second_found : (a r b s name : ℕ) → (a ≡ name → ⊥) → b ≡ name → Some s ≡ field_named name ((a, r) ∷ (b, s) ∷ [])
-unfolding field_named
-second_found a r b s name e f = rw (ne_eqb a name e, eq-eqb b name f) refl
-
-pub neither_found : (a r b s name : ℕ) → (a ≡ name → ⊥) → (b ≡ name → ⊥) → None ≡ field_named name ((a, r) ∷ (b, s) ∷ [])
-unfolding field_named
-neither_found a r b s name e f = rw (ne_eqb a name e, ne_eqb b name f) refl
-
-pub none_found : (name : ℕ) → None ≡ field_named name []
-unfolding field_named
-none_found name = refl
-
--- ---- names of members
 
 nth_drop : (ms : List Member) (k j : ℕ) → nth (drop k ms) j ≡ nth ms (k + j)
 unfolding nth

@@ -10,23 +10,21 @@ use Rattle.layout.specs.Write.{pair_fields}
 use Rattle.area.specs.declared.Round.{Round}
 use Rattle.area.specs.declared.Progress.{Progress}
 use Rattle.area.specs.Area.{stack_at, Rep}
-use Rattle.area.specs.Posts.{Safe, Notes, Larger, Meets}
+use Rattle.area.specs.Posts.{Safe, Notes, Larger, Meets, Ans, gives, refuses}
 use Rattle.cells.specs.declared.defs.Def.{Def}
 use Rattle.cells.specs.Names.{def_of, member_of}
-use Rattle.members.specs.declared.Wrote.{Wrote}
-use Rattle.members.specs.declared.Wrote.TheVariants.{Done, Refused}
-use Rattle.members.specs.Posts.{wrote_is, remark_on}
+use Rattle.members.specs.Posts.{remark_on}
 
 -- the numbers after the top `len` bytes of the stack were filed
-abbrev pub Lodged : Round → ℕ → Progress → ℕ → Wrote → Type 0
-Lodged R n q len (Done t) = Safe R n t × Larger q len (q.top - len) t
-Lodged R n q len (Refused k t) = Safe R n t
+abbrev pub Lodged : Round → ℕ → Progress → ℕ → Ans (Unit {0}) → Type 0
+Lodged R n q len (gives u t) = Safe R n t × Larger q len (q.top - len) t
+Lodged R n q len (refuses k t) = Safe R n t
 
 -- a run is filed, and its pointer stands at `at` with its count
-pub record Lodges (R : Round) (n : ℕ) (q : Progress) (w : Bytes) (block len at count : ℕ) (r : Wrote) (w' : Bytes) : Type 0 where
+pub record Lodges (R : Round) (n : ℕ) (q : Progress) (w : Bytes) (block len at count : ℕ) (r : Ans (Unit {0})) (w' : Bytes) : Type 0 where
   pub grew : Lodged R n q len r
   pub says : (S : Schema) (s : State) (σ buf b : Bytes) (off : ℕ) → length b ≡ len → stack_at R + length σ + off ≡ at → off + 12 ≤ length buf → Rep S R n s ((σ ++ buf) ++ b) q w
-      → Meets S R n (λ c. σ ++ c) (λ c x. length c ≡ length buf) (bind (add_item block b) (λ p. ret (put_counted buf off p count)) s) (wrote_is r) w'
+      → Meets S R n (λ c. σ ++ c) (λ c x. length c ≡ length buf) (bind (add_item block b) (λ p. ret (put_counted buf off p count)) s) r w'
 
 -- the numbers after the stack's part above `base` went
 pub record Lower (q : Progress) (base notes : ℕ) (t : Progress) : Type 0 where
@@ -35,16 +33,16 @@ pub record Lower (q : Progress) (base notes : ℕ) (t : Progress) : Type 0 where
   pub charge : t.charge ≡ q.charge
   pub seen : t.seen ≤ q.seen + notes
 
-abbrev pub Lowered : Round → ℕ → Progress → ℕ → Wrote → Type 0
-Lowered R n q base (Done t) = Safe R n t × Lower q base 1 t
-Lowered R n q base (Refused k t) = ⊥
+abbrev pub Lowered : Round → ℕ → Progress → ℕ → Ans (Unit {0}) → Type 0
+Lowered R n q base (gives u t) = Safe R n t × Lower q base 1 t
+Lowered R n q base (refuses k t) = ⊥
 
 -- the bytes above `base` are moved into the structure below them, where they fit
-pub record Embeds (R : Round) (n base : ℕ) (q : Progress) (w : Bytes) (d : Def) (m : coded.Member) (r : Wrote) (w' : Bytes) : Type 0 where
+pub record Embeds (R : Round) (n base : ℕ) (q : Progress) (w : Bytes) (d : Def) (m : coded.Member) (r : Ans (Unit {0})) (w' : Bytes) : Type 0 where
   pub grew : Lowered R n q base r
   pub says : (F : Bytes) (S : Schema) (s : State) (σ buf b : Bytes) → length buf ≡ d.size → base + length b ≡ q.top → Rep S R n s ((σ ++ buf) ++ b) q w
       → Meets S R n (λ c. σ ++ c) (λ c x. length c ≡ d.size)
-      (need (def_of F d) (member_of m) (length b) buf (ret (over buf m.offset b)) s) (wrote_is r) w'
+      (need (def_of F d) (member_of m) (length b) buf (ret (over buf m.offset b)) s) r w'
 
 -- the row of element k, or of pair k's key
 abbrev pub element_row : ℕ → ℕ → Bool → ℕ

@@ -11,13 +11,10 @@ use Rattle.layout.specs.Runs.{own_type}
 use Rattle.layout.specs.Write.{ARRAYINFO}
 use Rattle.area.specs.declared.Round.{Round}
 use Rattle.area.specs.Area.{env_of}
-use Rattle.cells.specs.Names.{member_of}
 use Rattle.cells.specs.declared.defs.Def.{Def}
 use Rattle.members.specs.Names.{looked_is, looked_up}
 use Rattle.choices.specs.declared.source.Source.{Source}
 use Rattle.choices.specs.declared.source.Source.TheVariants as S
-use Rattle.choices.specs.declared.choose.Info.{Info}
-use Rattle.choices.specs.declared.choose.Info.TheVariants as I
 
 -- the members that a structure is written with
 abbrev pub fields_is : Bytes → Source → Fields
@@ -32,11 +29,6 @@ pub record NextNamed (d : StructDef) (count k r : ℕ) : Type 0 where
   pub few : r ≤ count
   pub passed : (i : ℕ) → k ≤ i → i < r → (m : Defs.Member) → nth d.members i ≡ Some m → m.name ≡ ARRAYINFO
   pub here : (m : Defs.Member) → nth d.members r ≡ Some m → m.name ≡ ARRAYINFO → ⊥
-
--- an element descriptor, or none
-abbrev pub info_is : Info → Option Defs.Member
-info_is (I.At m) = Some (member_of m)
-info_is I.Missing = None
 
 -- the structure that building finds under the row's own type, or else under the reference
 abbrev pub own_up : Bytes → Row → ℕ → Option Def

@@ -1,26 +1,27 @@
 // What is chosen before a structure is written: definitions, element descriptors, counts; and what is done with a finished run.
-ghost use Rattle.std.specs.Prelude.{◌≡◌, min, ◌+◌, ◌≤◌, length};
+ghost use Rattle.std.specs.Prelude.{◌≡◌, ◌+◌, ◌≤◌, option_map};
 ghost use Rattle.schema.specs.Defs.{Schema};
 ghost use Rattle.layout.specs.Write;
 ghost use Rattle.area.specs.Area.{items_at, stack_at, env_of};
-ghost use Rattle.area.specs.Posts.{Safe, Open};
+ghost use Rattle.area.specs.Posts.{Open};
 ghost use Rattle.cells.specs.Names.{def_of, member_of};
-ghost use Rattle.choices.specs.Sources.{info_is, own_up, Owned, item_count, pair_count};
-ghost use Rattle.choices.specs.Posts.{Embeds, Lodges};
+ghost use Rattle.choices.specs.Sources.{own_up, Owned, item_count, pair_count};
+ghost use Rattle.choices.specs.Steps.{Embeds, Lodges};
 
-use area::items::lay;
+use area::Area;
+use area::fault::Fault;
 use area::stack::shift;
-use area::{Laid, Progress, Round};
 use cells::defs::Def;
 use definitions::members::{Member, read_member};
-use members::member::fits;
 use members::slots::put_counted;
-use members::{Wrote, drop_run, look_up, say};
+use members::{Target, look_up};
+use numbers::refusal::Refusal;
 use texts::text::trim;
 use value::kind::Kind;
 use value::{Row, text_of};
 
 // The structure that a row by pointer is: its own type's, where there is one, else the reference's.
+#[tactic(auto, using(crate::proofs::Choosing::own_here, crate::proofs::Choosing::own_reference))]
 pub fn own_type(schema: &[u8], v: Row, reference: u32) -> Option<Def>
     ensures value { result ≡ own_up schema.now v reference }
     ensures owned { Owned schema.now v reference result }
@@ -41,32 +42,26 @@ pub fn is_struct_value(v: Row) -> bool
 
 // Array, Null or blank text.
 pub fn is_array_value(sheet: &[u8], v: Row) -> bool
-    ensures { (S : Schema) (round : Round) → result ≡ Write.is_array_value (env_of sheet.now S round) v }
+    ensures { (S : Schema) (round : _) → result ≡ Write.is_array_value (env_of sheet.now S round) v }
 {
     v.is(Kind::Array) | v.is(Kind::Null) | (v.is(Kind::Str) && trim(text_of(sheet, v)).is_empty())
 }
 
-// An element descriptor, or none.
-#[derive(Clone, Copy)]
-pub enum Info {
-    At(Member),
-    Missing,
-}
-
 // What an array's elements are: the member that the reference's low 16 bits say, or, where there are too few, its low 12 bits.
-pub fn array_info(schema: &[u8], d: Def, m: Member) -> Info
-    ensures { info_is result ≡ Write.array_info (def_of schema.now d) (member_of m) }
+#[tactic(auto, using(crate::proofs::Choosing::info_low, crate::proofs::Choosing::info_less, crate::proofs::Choosing::info_none))]
+pub fn array_info(schema: &[u8], d: Def, m: Member) -> Option<Member>
+    ensures { option_map member_of result ≡ Write.array_info (def_of schema.now d) (member_of m) }
 {
-    let n = d.count as u32;
+    let n = u32::from(d.count);
     let low = m.reference % 65536;
     if low < n {
-        return Info::At(read_member(schema, d.place, low));
+        return Some(read_member(schema, d.place, low));
     }
     let less = m.reference % 4096;
     if less < n {
-        return Info::At(read_member(schema, d.place, less));
+        return Some(read_member(schema, d.place, less));
     }
-    Info::Missing
+    None
 }
 
 // How many items an array has.
@@ -83,57 +78,43 @@ pub fn pair_count(v: Row) -> u32
     if v.is(Kind::Map) { v.b } else { 0 }
 }
 
-// Whether an array is by pointer.
+// Whether an array is by pointer: by the bytes of the subtypes, as document 01 has it (docs/DECISIONS.md, 18).
 pub fn by_pointer(sub: u8, elements: u8) -> bool
     ensures { result ≡ Write.by_pointer sub elements }
 {
     (sub == 0) | ((sub == 4) & (elements == 3))
 }
 
-// The smaller of two.
-pub fn min(a: u32, b: u32) -> u32
-    ensures { result ≡ min a b }
-{
-    if a < b { a } else { b }
-}
-
 // The run on top of the stack is filed; its pointer stands at `at` with its count n.
 pub fn lay_run(
-    work: &mut [u8],
-    round: Round,
-    q: Progress,
+    area: &mut Area<'_>,
     block: u32,
     len: usize,
     at: usize,
     n: u32,
-) -> Wrote
-    requires safe { Safe round (length work.old) q }
-    requires len_bound { (q.end + (16 + len) ≤ items_at round + q.charge) × (stack_at round ≤ at) × (at + 12 + len ≤ q.top) }
-    ensures { Lodges round (length work.old) q work.old block len at n result work.new }
+) -> Result<(), Refusal>
+    requires { (area.old.progress.end + (16 + len) ≤ items_at area.old.round + area.old.progress.charge)
+        × (stack_at area.old.round ≤ at) × (at + 12 + len ≤ area.old.progress.top) }
+    ensures { Lodges area.old block len at n result area.new }
 {
-    match lay(work, round, q, block, len) {
-        Laid::Refused(k, s) => Wrote::Refused(k, s),
-        Laid::At(x, s) => {
-            put_counted(work, at, x, n as usize);
-            Wrote::Done(s)
-        }
-    }
+    let x = area.lay(block, len)?;
+    put_counted(area.bytes, at, x, n as usize);
+    Ok(())
 }
 
 // The run above `base` is moved into the structure below it, where it fits (remark 1).
-pub fn embed(work: &mut [u8], round: Round, base: usize, q: Progress, d: Def, m: Member) -> Wrote
-    requires safe { Safe round (length work.old) q × Open q }
-    requires size_bound { (stack_at round + d.size ≤ base) × (base ≤ q.top) }
-    ensures { Embeds round (length work.old) base q work.old d m result work.new }
+pub fn embed(area: &mut Area<'_>, base: usize, at: &Target)
+    requires open { Open area.old.progress }
+    requires size_bound { (stack_at area.old.round + at.now.structure.size ≤ base) × (base ≤ area.old.progress.top) }
+    ensures { Embeds area.old base at.now.structure at.now.member area.new }
 {
-    let len = q.top - base;
-    if !fits(d, m, len) {
-        let s = drop_run(work, q, base);
-        return Wrote::Done(say(work, round, s, d, m, 1, d.size));
+    let len = area.progress.top - base;
+    let size = at.structure.size;
+    if !at.fits(len) {
+        area.drop_to(base);
+        at.say(area, Fault::MemberSize, size);
+        return;
     }
-    let to = base - (d.size as usize) + (m.offset as usize);
-    shift(work, base, to, len);
-    let mut s = q;
-    s.top = base;
-    Wrote::Done(s)
+    shift(area.bytes, base, at.place(base), len);
+    area.progress.top = base;
 }

@@ -20,6 +20,7 @@ pub enum Source {
 }
 
 // The first value of a name.
+#[tactic(auto, unfolding(value::specs::Rows::field_named))]
 pub fn value_of(sheet: &[u8], from: Source, name: u32) -> Option<usize>
     ensures { result ≡ field_named name (fields_is sheet.now from) }
 {
@@ -45,6 +46,7 @@ pub fn value_of(sheet: &[u8], from: Source, name: u32) -> Option<usize>
 }
 
 // A value's members.
+#[tactic(auto, unfolding(value::specs::Rows::fields_of))]
 pub fn source_of(v: Option<usize>) -> Source
     ensures { (T : Bytes) → fields_is T result ≡ fields_of T (value_row T v) }
 {
@@ -59,14 +61,11 @@ fn next_named(schema: &[u8], d: Def, k: u32) -> u32
     requires { k ≤ d.count }
     ensures { NextNamed (def_of schema.now d) d.count k result }
 {
-    let n = d.count as u32;
-    let mut i = k;
-    while i < n {
-        let m = read_member(schema, d.place, i);
-        if m.name != 0x100 {
+    let n = u32::from(d.count);
+    for i in k..n {
+        if read_member(schema, d.place, i).name != 0x100 {
             return i;
         }
-        i += 1;
     }
     n
 }
@@ -75,7 +74,7 @@ fn next_named(schema: &[u8], d: Def, k: u32) -> u32
 pub fn pair_source(schema: &[u8], d: Def, r: usize, s: usize) -> Source
     ensures { (T : Bytes) → fields_is T result ≡ pair_fields (def_of schema.now d) (r, s) }
 {
-    let n = d.count as u32;
+    let n = u32::from(d.count);
     let i = next_named(schema, d, 0);
     if n <= i {
         return Source::Nothing;

@@ -23,15 +23,13 @@ use Rattle.layout.specs.Members.{says, leaves, need, wrong}
 use Rattle.area.specs.declared.Round.{Round}
 use Rattle.area.specs.declared.Progress.{Progress}
 use Rattle.area.specs.Area.{Rep, used_in, env_of}
-use Rattle.area.specs.Posts.{Safe, Open, Notes, Marks}
+use Rattle.area.specs.Posts.{Safe, Open, Notes, Marks, Ans, gives, refuses}
 use Rattle.area.proofs.Lending.{buffer, lent}
 use Rattle.cells.specs.declared.defs.Def.{Def}
 use Rattle.cells.specs.Names.{def_of, member_of}
 use Rattle.cells.specs.Cells.{Puts}
 use Rattle.cells.specs.declared.plan.Plan.{Plan}
 use Rattle.cells.specs.Plans.{cell_member, plain_member, planned, Known, Knows, PlansKind}
-use Rattle.members.specs.declared.Wrote.{Wrote}
-use Rattle.members.specs.declared.Wrote.TheVariants.{Done, Refused}
 use Rattle.members.specs.Posts.{remark_on, Buffer, Went, Fills, Marked, any_schema}
 
 -- a definition's name and size
@@ -60,11 +58,11 @@ need_yes d e k buf a t = rw t refl
 
 module _ (R : Round) (n : ℕ) (p : Progress) (w : Bytes) where
   -- the numbers where nothing was done
-  pub went_same : Safe R n p → (notes : ℕ) → Went R n p notes (Done p)
+  pub went_same : Safe R n p → (notes : ℕ) → Went R n p notes (gives (tt {0}) p)
   went_same h notes = (h, record { more = omega arith; paid = omega arith; top = omega arith; met = omega arith })
 
   -- .. after a remark
-  pub went_noted : (r : Remark) (q : Progress) (w' : Bytes) → Safe R n p → Open p → Notes R n p w r q w' → Went R n p 1 (Done q)
+  pub went_noted : (r : Remark) (q : Progress) (w' : Bytes) → Safe R n p → Open p → Notes R n p w r q w' → Went R n p 1 (gives (tt {0}) q)
   went_noted r q w' h o t = (
     record {
       small = h.small;
@@ -85,7 +83,7 @@ module _ (R : Round) (n : ℕ) (p : Progress) (w : Bytes) where
   )
 
   -- .. after an enum was used
-  pub went_marked : (known : Schema → Bool) (to : State → State) (x : Bytes) (q : Progress) (w' : Bytes) (notes : ℕ) → Safe R n p → Marks R n p x known to q w' → Went R n p notes (Done q)
+  pub went_marked : (known : Schema → Bool) (to : State → State) (x : Bytes) (q : Progress) (w' : Bytes) (notes : ℕ) → Safe R n p → Marks R n p x known to q w' → Went R n p notes (gives (tt {0}) q)
   went_marked known to x q w' notes h t = (
     record {
       small = h.small;
@@ -106,19 +104,19 @@ module _ (R : Round) (n : ℕ) (p : Progress) (w : Bytes) where
   )
 
   -- another writer that does the same, where less is known of the schema
-  pub fills_as : (known less : Schema → Type 0) (size : ℕ) (f g : Schema → Bytes → M Bytes) (r : Wrote) (w' : Bytes)
+  pub fills_as : (known less : Schema → Type 0) (size : ℕ) (f g : Schema → Bytes → M Bytes) (r : Ans (Unit {0})) (w' : Bytes)
       → ((S : Schema) → known S → less S × ((buf : Bytes) (s : State) → f S buf s ≡ g S buf s)) → Fills less R n p w size g r w' → Fills known R n p w size f r w'
   fills_as known less size f g r w' e a =
       record { grew = a.grew; says = λ S k s σ buf l q. rw ((e S k).1 buf s) (a.says S (e S k).0 s σ buf l q) }
 
   -- nothing is done
-  pub stays : (known : Schema → Type 0) (size : ℕ) → Safe R n p → Fills known R n p w size (λ S buf. ret buf) (Done p) w
+  pub stays : (known : Schema → Type 0) (size : ℕ) → Safe R n p → Fills known R n p w size (λ S buf. ret buf) (gives (tt {0}) p) w
   unfolding ret
   stays known size h = record { grew = went_same h 1; says = λ S k s σ buf l q. (q, l) }
 
   -- a remark
   pub said : (known : Schema → Type 0) (size : ℕ) (F : Bytes) (d : Def) (m : coded.Member) (kind detail : ℕ) (q : Progress) (w' : Bytes) → Safe R n p → Open p
-      → Notes R n p w (remark_on d m kind detail) q w' → Fills known R n p w size (λ S buf. leaves (def_of F d) (member_of m) kind detail buf) (Done q) w'
+      → Notes R n p w (remark_on d m kind detail) q w' → Fills known R n p w size (λ S buf. leaves (def_of F d) (member_of m) kind detail buf) (gives (tt {0}) q) w'
   said known size F d m kind detail q w' h o t =
       record {
         grew = went_noted (remark_on d m kind detail) q w' h o t;
@@ -128,26 +126,28 @@ module _ (R : Round) (n : ℕ) (p : Progress) (w : Bytes) where
   -- the member does not fit
   pub too_long : (known : Schema → Type 0) (F : Bytes) (d : Def) (m : coded.Member) (k : ℕ) (f : Schema → Bytes → M Bytes) (q : Progress) (w' : Bytes) → Safe R n p → Open p
       → leb (m.offset + k) d.size ≡ false → Notes R n p w (remark_on d m 1 d.size) q w'
-      → Fills known R n p w d.size (λ S buf. need (def_of F d) (member_of m) k buf (f S buf)) (Done q) w'
+      → Fills known R n p w d.size (λ S buf. need (def_of F d) (member_of m) k buf (f S buf)) (gives (tt {0}) q) w'
   too_long known F d m k f q w' h o e t =
-      fills_as known known d.size (λ S buf. need (def_of F d) (member_of m) k buf (f S buf)) (λ S buf. leaves (def_of F d) (member_of m) 1 d.size buf) (Done q) w'
+      fills_as known known d.size (λ S buf. need (def_of F d) (member_of m) k buf (f S buf)) (λ S buf. leaves (def_of F d) (member_of m) 1 d.size buf) (gives (tt {0}) q) w'
       (λ S u. (u, λ buf s. ap (λ (a : M Bytes). a s) (need_no (def_of F d) (member_of m) k buf (f S buf) (rw (def_size F d) e) ∙ ap (λ (x : ℕ). leaves (def_of F d) (member_of m) 1 x buf) (def_size F d))))
       (said known d.size F d m 1 d.size q w' h o t)
 
   -- a wrong value: a missing member gives no remark
-  pub wrong_missing : (known : Schema → Type 0) (size : ℕ) (d : StructDef) (e : Defs.Member) → Safe R n p → Fills known R n p w size (λ S buf. wrong d e None buf) (Done p) w
+  pub wrong_missing : (known : Schema → Type 0) (size : ℕ) (d : StructDef) (e : Defs.Member) (v : Value) → is_some v ≡ false → Safe R n p → Fills known R n p w size (λ S buf. wrong d e v buf) (gives (tt {0}) p) w
   unfolding wrong opt_m
-  wrong_missing known size d e h = stays known size h
+  wrong_missing known size d e None i h = stays known size h
+  wrong_missing known size d e (Some r) i h = cc
 
-  pub wrong_value : (known : Schema → Type 0) (size : ℕ) (F : Bytes) (d : Def) (m : coded.Member) (r : ℕ) (q : Progress) (w' : Bytes) → Safe R n p → Open p
-      → Notes R n p w (remark_on d m 2 (Kinds.type_number m.kind)) q w' → Fills known R n p w size (λ S buf. wrong (def_of F d) (member_of m) (Some r) buf) (Done q) w'
+  pub wrong_value : (known : Schema → Type 0) (size : ℕ) (F : Bytes) (d : Def) (m : coded.Member) (v : Value) (q : Progress) (w' : Bytes) → is_some v ≡ true → Safe R n p → Open p
+      → Notes R n p w (remark_on d m 2 (Kinds.type_number m.kind)) q w' → Fills known R n p w size (λ S buf. wrong (def_of F d) (member_of m) v buf) (gives (tt {0}) q) w'
   unfolding wrong opt_m
-  wrong_value known size F d m r q w' h o t = said known size F d m 2 (Kinds.type_number m.kind) q w' h o t
+  wrong_value known size F d m (Some r) q w' i h o t = said known size F d m 2 (Kinds.type_number m.kind) q w' h o t
+  wrong_value known size F d m None q w' i h o t = cc
 
   -- bytes were stored in the buffer, which was lent for it; then the enum was used, where it is known
   stored_bytes : (name : Option ℕ) (size : ℕ) (bs : Bytes) (off at len : ℕ) (c : Bytes) (q : Progress) (w' : Bytes) → Safe R n p → at + len ≡ p.top → len ≡ size
       → c ≡ over (take len (drop at w)) off bs → length c ≡ len → Marked R n p (put_mid at len w c) name q w'
-      → Fills (Known name) R n p w size (λ S buf. bind (opt_m name (ret tt) use_enum) λ _. ret (over buf off bs)) (Done q) w'
+      → Fills (Known name) R n p w size (λ S buf. bind (opt_m name (ret tt) use_enum) λ _. ret (over buf off bs)) (gives (tt {0}) q) w'
   unfolding bind after ret opt_m use_enum log_enum on_core settle use_enum_c
   stored_bytes name size bs off at len c q w' h e f g l m = go name m
     where
@@ -161,7 +161,7 @@ module _ (R : Round) (n : ℕ) (p : Progress) (w : Bytes) where
       put S s σ buf i r = rw g (lent S R n σ buf at len (λ b. over b off bs) r inside e (i ∙ sym f) (same S s σ buf i r))
 
       go : (o : Option ℕ) → Marked R n p (put_mid at len w c) o q w'
-          → Fills (Known o) R n p w size (λ S buf. bind (opt_m o (ret tt) use_enum) λ _. ret (over buf off bs)) (Done q) w'
+          → Fills (Known o) R n p w size (λ S buf. bind (opt_m o (ret tt) use_enum) λ _. ret (over buf off bs)) (gives (tt {0}) q) w'
       go (Some x) t =
           record {
             grew = went_marked (λ S. is_some ((winning S).enum x)) (used_in x) (put_mid at len w c) q w' 1 h t;
@@ -182,7 +182,7 @@ module _ (R : Round) (n : ℕ) (p : Progress) (w : Bytes) where
     found S = Known name S
 
     -- it does not fit the structure
-    pub cell_long : (q : Progress) (w' : Bytes) → Safe R n p → Open p → leb (m.offset + k) d.size ≡ false → Notes R n p w (remark_on d m 1 d.size) q w' → Fills found R n p w d.size cells (Done q) w'
+    pub cell_long : (q : Progress) (w' : Bytes) → Safe R n p → Open p → leb (m.offset + k) d.size ≡ false → Notes R n p w (remark_on d m 1 d.size) q w' → Fills found R n p w d.size cells (gives (tt {0}) q) w'
     unfolding cell_member
     cell_long q w' h o e t =
         too_long found F d m k (λ S buf. fit_m (cell (value_row T v)) (wrong (def_of F d) (member_of m) v buf) λ bs. bind (opt_m name (ret tt) use_enum) λ _. ret (over buf m.offset bs)) q w' h o e t
@@ -209,23 +209,23 @@ module _ (R : Round) (n : ℕ) (p : Progress) (w : Bytes) where
 
       -- it was stored
       pub cell_stored : (q : Progress) (w' : Bytes) → Safe R n p → Buffer R p d.size → n ≡ length w → Puts (cell row) part m.offset (Ok tt) c → length c ≡ length part
-          → Marked R (length (put_mid low wide w c)) p (put_mid low wide w c) name q w' → Fills found R n p w d.size cells (Done q) w'
+          → Marked R (length (put_mid low wide w c)) p (put_mid low wide w c) name q w' → Fills found R n p w d.size cells (gives (tt {0}) q) w'
       unfolding fit_m
       cell_stored q w' h b i u l t = go (cell row) refl u
         where
           long : length c ≡ wide
           long = l ∙ mid_len low p.top w (omega (arith, h))
 
-          go : (x : Fit Bytes) → cell row ≡ x → Puts x part m.offset (Ok tt) c → Fills found R n p w d.size cells (Done q) w'
+          go : (x : Fit Bytes) → cell row ≡ x → Puts x part m.offset (Ok tt) c → Fills found R n p w d.size cells (gives (tt {0}) q) w'
           go (Ok bs) g y =
-              fills_as found found d.size cells (λ S buf. bind (opt_m name (ret tt) use_enum) λ _. ret (over buf m.offset bs)) (Done q) w'
+              fills_as found found d.size cells (λ S buf. bind (opt_m name (ret tt) use_enum) λ _. ret (over buf m.offset bs)) (gives (tt {0}) q) w'
               (λ S z. (z, λ buf s. cell_is (Ok bs) g S buf s))
               (stored_bytes name d.size bs m.offset low wide c q w' h (omega (arith, b)) (omega (arith, b)) y long
               (subst (λ (o : ℕ). Marked R o p (put_mid low wide w c) name q w') (same_len_mid low wide w c l ∙ sym i) t))
           go (Err e) g y = absurd y
 
       -- it did not coerce
-      pub cell_wrong : (r : Wrote) (w' : Bytes) → n ≡ length w → Puts (cell row) part m.offset (Err Unfit) c
+      pub cell_wrong : (r : Ans (Unit {0})) (w' : Bytes) → n ≡ length w → Puts (cell row) part m.offset (Err Unfit) c
           → Fills any_schema R (length (put_mid low wide w c)) p (put_mid low wide w c) d.size (λ S buf. wrong (def_of F d) (member_of m) v buf) r w' → Fills found R n p w d.size cells r w'
       unfolding fit_m
       cell_wrong r w' i u a = go (cell row) refl u
@@ -239,11 +239,11 @@ module _ (R : Round) (n : ℕ) (p : Progress) (w : Bytes) where
           go (Err FloatText) g y = cc
 
       -- a float's text
-      pub cell_refused : Safe R n p → Puts (cell row) part m.offset (Err FloatText) c → Fills found R n p w d.size cells (Refused 11 p) (put_mid low wide w c)
+      pub cell_refused : Safe R n p → Puts (cell row) part m.offset (Err FloatText) c → Fills found R n p w d.size cells (refuses 11 p) (put_mid low wide w c)
       unfolding fit_m fail
       cell_refused h u = go (cell row) refl u
         where
-          go : (x : Fit Bytes) → cell row ≡ x → Puts x part m.offset (Err FloatText) c → Fills found R n p w d.size cells (Refused 11 p) (put_mid low wide w c)
+          go : (x : Fit Bytes) → cell row ≡ x → Puts x part m.offset (Err FloatText) c → Fills found R n p w d.size cells (refuses 11 p) (put_mid low wide w c)
           go (Err FloatText) g y =
               record {
                 grew = h;
@@ -253,12 +253,8 @@ module _ (R : Round) (n : ℕ) (p : Progress) (w : Bytes) where
           go (Ok bs) g y = absurd y
           go (Err Unfit) g y = cc
 
--- there is room for a cell that fits
-pub part_room : (w : Bytes) (top size off k : ℕ) → top ≤ length w → size ≤ top → off + k ≤ size → off + k ≤ length (take (top - (top - size)) (drop (top - size) w))
-part_room w top size off k h g l = omega (arith, mid_len (top - size) top w h)
-
 -- the member is written as planned
-pub as_planned : (F : Bytes) (d : Def) (m : coded.Member) (R : Round) (n : ℕ) (p : Progress) (w T : Bytes) (v : Value) (k : Kinds.Kind) (pl x : Plan) → PlansKind F d m k pl → pl ≡ x → (r : Wrote) (w' : Bytes)
+pub as_planned : (F : Bytes) (d : Def) (m : coded.Member) (R : Round) (n : ℕ) (p : Progress) (w T : Bytes) (v : Value) (k : Kinds.Kind) (pl x : Plan) → PlansKind F d m k pl → pl ≡ x → (r : Ans (Unit {0})) (w' : Bytes)
     → Fills (λ S. Knows S x) R n p w d.size (λ S buf. planned T (env_of T S R) x (def_of F d) (member_of m) v buf) r w'
     → Fills (λ S. schema_of F ≡ ok S) R n p w d.size (λ S buf. plain_member (env_of T S R) (def_of F d) (member_of m) k v buf) r w'
 as_planned F d m R n p w T v k pl x a q r w' b =

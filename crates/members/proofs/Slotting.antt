@@ -15,12 +15,10 @@ use Rattle.layout.specs.Members.{put_pointer, put_counted, slot_size, add_string
 use Rattle.area.specs.declared.Round.{Round}
 use Rattle.area.specs.declared.Progress.{Progress}
 use Rattle.area.specs.Area.{stack_at, Rep, with_paid, env_of}
-use Rattle.area.specs.Posts.{Safe, gives, refuses, Meets, Larger, LaysText}
+use Rattle.area.specs.Posts.{Safe, gives, refuses, Meets, Larger, LaysText, Ans, paid_is}
 use Rattle.area.proofs.Over.{over_seq, length_over}
 use Rattle.area.proofs.Reps.{rep_put}
-use Rattle.members.specs.declared.Wrote.{Wrote}
-use Rattle.members.specs.declared.Wrote.TheVariants.{Done, Refused}
-use Rattle.members.specs.Posts.{paid_is, Went, Slots}
+use Rattle.members.specs.Posts.{Went, Slots}
 
 -- a pointer with a count, in three steps
 pub counted : (w a b c : Bytes) (at x n : ℕ) → at + 12 ≤ length w → a ≡ put_pointer w at x → b ≡ over a (at + 8) (bytes_of 2 n) → c ≡ over b (at + 10) (bytes_of 2 n) → c ≡ put_counted w at x n
@@ -53,43 +51,32 @@ rep_counted S R n σ buf off at x count r h l e =
     rep_put S R n σ (over buf off a) (bytes_of 2 count ++ bytes_of 2 count) (off + 8) (at + 8)
     (rep_put S R n σ buf a off at r h (omega (arith, length_bytes 4 x)) e) h (omega (arith, length_count count)) (omega arith)
 
-abbrev is_done : Wrote → Bool
-is_done (Done q) = true
-is_done (Refused k q) = false
+abbrev is_done : Ans (Unit {0}) → Bool
+is_done (gives u q) = true
+is_done (refuses k q) = false
 
-abbrev progress_in : Wrote → Progress
-progress_in (Done q) = q
-progress_in (Refused k q) = q
+abbrev progress_in : Ans (Unit {0}) → Progress
+progress_in (gives u q) = q
+progress_in (refuses k q) = q
 
-abbrev number_in : Wrote → ℕ
-number_in (Done q) = 0
-number_in (Refused k q) = k
+abbrev number_in : Ans (Unit {0}) → ℕ
+number_in (gives u q) = 0
+number_in (refuses k q) = k
 
 -- what the charge's answer says
-pub paid_yes : (R : Round) (p : Progress) (k : ℕ) (r : Wrote) (q : Progress) → r ≡ paid_is R p k → r ≡ Done q → (leb (p.charge + k) R.cap ≡ true) × (q ≡ with_paid p (p.charge + k))
+pub paid_yes : (R : Round) (p : Progress) (k : ℕ) (r : Ans (Unit {0})) (q : Progress) → r ≡ paid_is R p k → r ≡ gives (tt {0}) q → (leb (p.charge + k) R.cap ≡ true) × (q ≡ with_paid p (p.charge + k))
 paid_yes R p k r q e f = go (leb (p.charge + k) R.cap) refl
   where
     go : (t : Bool) → leb (p.charge + k) R.cap ≡ t → (leb (p.charge + k) R.cap ≡ true) × (q ≡ with_paid p (p.charge + k))
     go true g = (g, ap progress_in (sym f ∙ e) ∙ rw g refl)
     go false g = absurd (false≢true (sym (ap is_done (sym f ∙ e) ∙ rw g refl)))
 
-pub paid_no : (R : Round) (p : Progress) (k : ℕ) (r : Wrote) (j : ℕ) (q : Progress) → r ≡ paid_is R p k → r ≡ Refused j q → (leb (p.charge + k) R.cap ≡ false) × (j ≡ 9) × (q ≡ p)
+pub paid_no : (R : Round) (p : Progress) (k : ℕ) (r : Ans (Unit {0})) (j : ℕ) (q : Progress) → r ≡ paid_is R p k → r ≡ refuses j q → (leb (p.charge + k) R.cap ≡ false) × (j ≡ 9) × (q ≡ p)
 paid_no R p k r j q e f = go (leb (p.charge + k) R.cap) refl
   where
     go : (t : Bool) → leb (p.charge + k) R.cap ≡ t → (leb (p.charge + k) R.cap ≡ false) × (j ≡ 9) × (q ≡ p)
     go false g = (g, ap number_in (sym f ∙ e) ∙ rw g refl, ap progress_in (sym f ∙ e) ∙ rw g refl)
     go true g = absurd (false≢true (ap is_done (sym f ∙ e) ∙ rw g refl))
-
--- there is room for a slot
-pub slot_room : (R : Round) (n : ℕ) (p : Progress) (sub at : ℕ) → Safe R n p → at + slot_size sub ≤ p.top → at + 8 ≤ n
-slot_room R n p sub at h l = go (eqb sub 3) l
-  where
-    go : (b : Bool) → at + cond b 16 8 ≤ p.top → at + 8 ≤ n
-    go true k = omega (arith, h)
-    go false k = omega (arith, h)
-
-pub counted_room : (R : Round) (n : ℕ) (p : Progress) (sub at : ℕ) → Safe R n p → at + slot_size sub ≤ p.top → sub ≡ 3 → at + 16 ≤ n
-counted_room R n p sub at h l e = let k : slot_size sub ≡ 16 = rw e refl in omega (arith, h)
 
 -- the charge paid
 pub rep_paid : (S : Schema) (R : Round) (n : ℕ) (s : State) (σ : Bytes) (p : Progress) (w : Bytes) (k : ℕ) → Rep S R n s σ p w → Rep S R n (with_charge (s.charge + k) s) σ (with_paid p (p.charge + k)) w
@@ -132,7 +119,7 @@ module _ (R : Round) (n : ℕ) (p : Progress) where
   }
 
   -- .. and with a text laid, whose charge is paid
-  pub laid_went : (len : ℕ) (q : Progress) → Safe R n p → p.charge + (16 + len) ≤ R.cap → Larger (with_paid p (p.charge + (16 + len))) len p.top q → Went R n p 0 (Done q)
+  pub laid_went : (len : ℕ) (q : Progress) → Safe R n p → p.charge + (16 + len) ≤ R.cap → Larger (with_paid p (p.charge + (16 + len))) len p.top q → Went R n p 0 (gives (tt {0}) q)
   laid_went len q h l g = (
     record {
       small = h.small;
@@ -165,7 +152,7 @@ module _ (R : Round) (n : ℕ) (p : Progress) (w : Bytes) (sub : ℕ) (t : Bytes
       go (b ∷ x) f = absurd (omega (arith, f))
 
   -- an empty text is not laid
-  pub text_none : length t ≡ 0 → Slots R n p w sub t at (Done p) w
+  pub text_none : length t ≡ 0 → Slots R n p w sub t at (gives (tt {0}) p) w
   unfolding ret
   text_none e =
       record {
@@ -197,7 +184,7 @@ module _ (R : Round) (n : ℕ) (p : Progress) (w : Bytes) (sub : ℕ) (t : Bytes
 
   module _ (some : length t ≡ 0 → ⊥) where
     -- the charge would pass its cap
-    pub text_poor : leb (p.charge + price) R.cap ≡ false → Slots R n p w sub t at (Refused 9 p) w
+    pub text_poor : leb (p.charge + price) R.cap ≡ false → Slots R n p w sub t at (refuses 9 p) w
     unfolding after_item after
     text_poor e =
         record {
@@ -208,7 +195,7 @@ module _ (R : Round) (n : ℕ) (p : Progress) (w : Bytes) (sub : ℕ) (t : Bytes
 
     module _ (rich : leb (p.charge + price) R.cap ≡ true) where
       -- there is no place for it
-      pub text_full : (k : ℕ) (q : Progress) (w' : Bytes) → LaysText R n (with_paid p (p.charge + price)) w t (refuses k q) w' → Slots R n p w sub t at (Refused k q) w'
+      pub text_full : (k : ℕ) (q : Progress) (w' : Bytes) → LaysText R n (with_paid p (p.charge + price)) w t (refuses k q) w' → Slots R n p w sub t at (refuses k q) w'
       unfolding after_item after
       text_full k q w' a =
           record {
@@ -227,7 +214,7 @@ module _ (R : Round) (n : ℕ) (p : Progress) (w : Bytes) (sub : ℕ) (t : Bytes
       laid : (f : Bytes → ℕ → ℕ → Bytes) (x : ℕ) (q : Progress) (w' : Bytes) → LaysText R n (with_paid p (p.charge + price)) w t (gives x q) w'
           → ((buf : Bytes) (off : ℕ) → cond (eqb sub 3) (put_counted buf off x (length t)) (put_pointer buf off x) ≡ f buf off x)
           → ((S : Schema) (s : State) (σ buf : Bytes) (off : ℕ) → stack_at R + length σ + off ≡ at → off + slot_size sub ≤ length buf → Rep S R n s (σ ++ buf) q w'
-          → Rep S R n s (σ ++ f buf off x) q (f w' at x) × (length (f buf off x) ≡ length buf)) → Slots R n p w sub t at (Done q) (f w' at x)
+          → Rep S R n s (σ ++ f buf off x) q (f w' at x) × (length (f buf off x) ≡ length buf)) → Slots R n p w sub t at (gives (tt {0}) q) (f w' at x)
       unfolding after_item after ret
       laid f x q w' a e put =
           record {
@@ -246,7 +233,7 @@ module _ (R : Round) (n : ℕ) (p : Progress) (w : Bytes) (sub : ℕ) (t : Bytes
       top_inside : (x : ℕ) (q : Progress) (w' : Bytes) → LaysText R n (with_paid p (p.charge + price)) w t (gives x q) w' → q.top ≤ n
       top_inside x q w' a = omega (arith, safe, a.grew.top)
 
-      pub text_pointer : (x : ℕ) (q : Progress) (w' : Bytes) → eqb sub 3 ≡ false → LaysText R n (with_paid p (p.charge + price)) w t (gives x q) w' → Slots R n p w sub t at (Done q) (put_pointer w' at x)
+      pub text_pointer : (x : ℕ) (q : Progress) (w' : Bytes) → eqb sub 3 ≡ false → LaysText R n (with_paid p (p.charge + price)) w t (gives x q) w' → Slots R n p w sub t at (gives (tt {0}) q) (put_pointer w' at x)
       unfolding put_pointer
       text_pointer x q w' e a = laid put_pointer x q w' a (λ buf off. rw e refl) put
         where
@@ -257,7 +244,7 @@ module _ (R : Round) (n : ℕ) (p : Progress) (w : Bytes) (sub : ℕ) (t : Bytes
               let m : slot_size sub ≡ 8 = rw e refl in
               (rep_put S R n σ buf (bytes_of 4 x) off at r (top_inside x q w' a) (omega arith) i, length_over buf off (bytes_of 4 x) (omega arith))
 
-      pub text_counted : (x : ℕ) (q : Progress) (w' : Bytes) → eqb sub 3 ≡ true → LaysText R n (with_paid p (p.charge + price)) w t (gives x q) w' → Slots R n p w sub t at (Done q) (put_counted w' at x (length t))
+      pub text_counted : (x : ℕ) (q : Progress) (w' : Bytes) → eqb sub 3 ≡ true → LaysText R n (with_paid p (p.charge + price)) w t (gives x q) w' → Slots R n p w sub t at (gives (tt {0}) q) (put_counted w' at x (length t))
       text_counted x q w' e a = laid (λ b o y. put_counted b o y (length t)) x q w' a (λ buf off. rw e refl) put
         where
           put : (S : Schema) (s : State) (σ buf : Bytes) (off : ℕ) → stack_at R + length σ + off ≡ at → off + slot_size sub ≤ length buf → Rep S R n s (σ ++ buf) q w'

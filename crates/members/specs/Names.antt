@@ -7,9 +7,13 @@ use Rattle.definitions.specs.Answers.{head_here}
 use Rattle.cells.specs.declared.defs.Def.{Def}
 use Rattle.cells.specs.Names.{def_of}
 
--- the structure at a place, if there is one
+-- the structure at a place, under a name
+abbrev pub defined_at : Bytes → ℕ → ℕ → Def
+defined_at F name at = record { name = name; place = at; size = (head_here F at).size; count = (head_here F at).count }
+
+-- .. if there is a place
 abbrev pub looked_at : Bytes → ℕ → Option ℕ → Option Def
-looked_at F name o = option_map (λ (at : ℕ). record { name = name; place = at; size = (head_here F at).size; count = (head_here F at).count }) o
+looked_at F name o = option_map (defined_at F name) o
 
 -- the one that building finds under a name
 unfoldable pub looked_up : Bytes → ℕ → Option Def

@@ -2,12 +2,10 @@
 ghost use Rattle.std.specs.Prelude.{◌≡◌, ◌+◌, ◌≤◌, ◌<◌, ◌^◌, length};
 ghost use Rattle.layout.specs.Members;
 ghost use Rattle.area.specs.Area.{stack_at};
-ghost use Rattle.area.specs.Posts.{Safe};
-ghost use Rattle.members.specs.Posts.{Slots};
+ghost use Rattle.members.specs.Steps.{Slots};
 
-use crate::{Wrote, pay};
-use area::items::lay_text;
-use area::{Laid, Progress, Round};
+use area::Area;
+use numbers::refusal::Refusal;
 use numbers::words::write;
 
 // A pointer at `at`.
@@ -28,7 +26,7 @@ pub fn put_counted(work: &mut [u8], at: usize, x: u32, n: usize)
     write(work, at + 10, 2, n as u64);
 }
 
-// How many bytes a text by pointer has in its structure.
+// How many bytes a text by pointer has in its structure. By the byte itself, as document 01 has it of type bytes and subtypes.
 pub fn slot_size(sub: u8) -> usize
     ensures { (result ≡ Members.slot_size sub) × (8 ≤ result) × (result ≤ 16) }
 {
@@ -36,34 +34,20 @@ pub fn slot_size(sub: u8) -> usize
 }
 
 // A text is laid, and its pointer stands at `at`, with its length where the subtype is 3; an empty text is not laid.
-pub fn text_slot(
-    work: &mut [u8],
-    round: Round,
-    p: Progress,
-    sub: u8,
-    text: &[u8],
-    at: usize,
-) -> Wrote
-    requires safe { Safe round (length work.old) p }
-    requires round_bound { (stack_at round ≤ at) × (at + Members.slot_size sub ≤ p.top) × (length text.now < 2 ^ 40) }
-    ensures { Slots round (length work.old) p work.old sub text.now at result work.new }
+pub fn text_slot(area: &mut Area<'_>, sub: u8, text: &[u8], at: usize) -> Result<(), Refusal>
+    requires { (stack_at area.old.round ≤ at) × (at + Members.slot_size sub ≤ area.old.progress.top) × (length text.now < 2 ^ 40) }
+    ensures { Slots area.old sub text.now at result area.new }
 {
     let n = text.len();
     if n == 0 {
-        return Wrote::Done(p);
+        return Ok(());
     }
-    match pay(round, p, 16 + (n + 1)) {
-        Wrote::Refused(k, q) => Wrote::Refused(k, q),
-        Wrote::Done(q) => match lay_text(work, round, q, text) {
-            Laid::Refused(k, s) => Wrote::Refused(k, s),
-            Laid::At(x, s) => {
-                if sub == 3 {
-                    put_counted(work, at, x, n);
-                } else {
-                    put_pointer(work, at, x);
-                }
-                Wrote::Done(s)
-            }
-        },
+    area.pay(16 + (n + 1))?;
+    let x = area.lay_text(text)?;
+    if sub == 3 {
+        put_counted(area.bytes, at, x, n);
+    } else {
+        put_pointer(area.bytes, at, x);
     }
+    Ok(())
 }

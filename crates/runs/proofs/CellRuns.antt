@@ -18,18 +18,13 @@ use Rattle.layout.specs.Runs.{run, text_element}
 use Rattle.area.specs.declared.Round.{Round}
 use Rattle.area.specs.declared.Progress.{Progress}
 use Rattle.area.specs.Area.{Rep, with_top, env_of}
-use Rattle.area.specs.Posts.{Safe, Meets}
+use Rattle.area.specs.Posts.{Fell, Safe, Meets, Ans, gives, refuses}
 use Rattle.area.proofs.Flat.{length_zeros, padded_is}
 use Rattle.area.proofs.Reps.{rep_push}
 use Rattle.area.proofs.Lending.{buffer, lent}
 use Rattle.cells.specs.declared.Cell.{Cell}
 use Rattle.cells.specs.Cells.{cell_bytes, Puts, cell_element}
-use Rattle.members.specs.declared.Wrote.{Wrote}
-use Rattle.members.specs.declared.Wrote.TheVariants.{Done, Refused}
-use Rattle.members.specs.Posts.{any_schema, wrote_is, Slots}
-use Rattle.runs.specs.declared.Ran.{Ran}
-use Rattle.runs.specs.declared.Ran.TheVariants as Rn
-use Rattle.members.specs.Posts.{Fell}
+use Rattle.members.specs.Posts.{any_schema, Slots}
 use Rattle.runs.specs.Posts.{Yields}
 use Rattle.runs.proofs.Loops.{Made, Fails, Halts, Ready, Running, Paid, run_cost, row_ith, length_rows_from, run_room, run_turn, run_dropped, run_stopped}
 
@@ -125,16 +120,16 @@ module _ (R : Round) (n : ℕ) (s : Progress) (w T : Bytes) (cell : Cell) (strid
           (λ S k t τ r. cell_made S R n T cell stride len (first + i) y is wide q v c t τ u (l ∙ mid_len q.top (q.top + stride) v (rw e cells_room)) cells_room r)
 
       module _ (p : Progress) (block : ℕ) (o : Safe R n p) (paid : Paid R p (run_cost stride m) s) where
-        abbrev Cells-post : Ran → Bytes → Type 0
+        abbrev Cells-post : Ans (Option ℕ) → Bytes → Type 0
         Cells-post x z = Yields any_schema R n p w 0 (λ S. run (env_of T S R) stride block (cell_element T cell stride) (rows_from first m)) x z
 
-        pub cells_dropped : (u : Progress) (z : Bytes) → Puts (cell_bytes T cell y) (take len (drop q.top v)) 0 (Err Unfit) c → Fell q p.top (put_mid q.top len v c) u z → Cells-post (Rn.Dropped u) z
+        pub cells_dropped : (u : Progress) (z : Bytes) → Puts (cell_bytes T cell y) (take len (drop q.top v)) 0 (Err Unfit) c → Fell q p.top (put_mid q.top len v c) u z → Cells-post (gives None u) z
         cells_dropped u z e f =
             run_dropped any_schema R n p w stride 0 m (λ S r. cell_element T cell stride r) (rows_from first m) T block 0 (length_rows_from first m) (omega arith) (first + i) o paid a less (row_ith first m i less) a.safe
             (record { more = omega arith; paid = omega arith; top = omega arith; met = omega arith })
             (λ S k t τ r. cell_fails S R n T cell stride len (first + i) y is wide q v c t τ e r) f
 
-        pub cells_stopped : Puts (cell_bytes T cell y) (take len (drop q.top v)) 0 (Err FloatText) c → Cells-post (Rn.Refused 11 q) (put_mid q.top len v c)
+        pub cells_stopped : Puts (cell_bytes T cell y) (take len (drop q.top v)) 0 (Err FloatText) c → Cells-post (refuses 11 q) (put_mid q.top len v c)
         cells_stopped e =
             run_stopped any_schema R n p w stride 0 m (λ S r. cell_element T cell stride r) (rows_from first m) T block 0 (length_rows_from first m) (omega arith) (first + i) paid a (row_ith first m i less) a.safe
             (λ S k t τ r. cell_halts S R n T cell stride len (first + i) y is wide q v c t τ e r)
@@ -148,26 +143,26 @@ module _ (S : Schema) (R : Round) (n : ℕ) (T : Bytes) (sub r : ℕ) (x : Bytes
   unfolding text_element bind
   text_is o e = rw (← is, e) refl
 
-  text_slot_law : {a : Wrote} → Slots R n (with_top q (q.top + slot_size sub)) v sub x q.top a z → q.top + slot_size sub ≤ n → Rep S R n t τ q v
-      → Meets S R n (λ b. τ ++ b) (λ b x. length b ≡ length (zeros (slot_size sub))) slot (wrote_is a) z
+  text_slot_law : {a : Ans (Unit {0})} → Slots R n (with_top q (q.top + slot_size sub)) v sub x q.top a z → q.top + slot_size sub ≤ n → Rep S R n t τ q v
+      → Meets S R n (λ b. τ ++ b) (λ b x. length b ≡ length (zeros (slot_size sub))) slot a z
   text_slot_law d h e =
       d.says S T t τ (zeros (slot_size sub)) 0 (omega (arith, e.top)) (omega (arith, length_zeros (slot_size sub))) (rep_push S R n (slot_size sub) e h)
 
   -- a text's slot is filled
-  text_made : Slots R n (with_top q (q.top + slot_size sub)) v sub x q.top (Done u) z → q.top + slot_size sub ≤ n → Rep S R n t τ q v → Made S R n τ (text_element (env_of T S R) sub r t) u z
+  text_made : Slots R n (with_top q (q.top + slot_size sub)) v sub x q.top (gives (tt {0}) u) z → q.top + slot_size sub ≤ n → Rep S R n t τ q v → Made S R n τ (text_element (env_of T S R) sub r t) u z
   unfolding after ret
   text_made d h e = go slot refl (text_slot_law d h e)
     where
-      go : (o : Out Bytes) → slot ≡ o → Meets S R n (λ b. τ ++ b) (λ b x. length b ≡ length (zeros (slot_size sub))) o (wrote_is (Done u)) z → Made S R n τ (text_element (env_of T S R) sub r t) u z
+      go : (o : Out Bytes) → slot ≡ o → Meets S R n (λ b. τ ++ b) (λ b x. length b ≡ length (zeros (slot_size sub))) o (gives (tt {0}) u) z → Made S R n τ (text_element (env_of T S R) sub r t) u z
       go (done b t') g l = record { state = t'; bytes = b; is = text_is (done b t') g; rep = l.0 }
       go (stop k es) g l = absurd l
 
   -- .. is refused
-  text_halts : (k : ℕ) → Slots R n (with_top q (q.top + slot_size sub)) v sub x q.top (Refused k u) z → q.top + slot_size sub ≤ n → Rep S R n t τ q v → Halts S R n k (text_element (env_of T S R) sub r t) u z
+  text_halts : (k : ℕ) → Slots R n (with_top q (q.top + slot_size sub)) v sub x q.top (refuses k u) z → q.top + slot_size sub ≤ n → Rep S R n t τ q v → Halts S R n k (text_element (env_of T S R) sub r t) u z
   unfolding after ret
   text_halts k d h e = go slot refl (text_slot_law d h e)
     where
-      go : (o : Out Bytes) → slot ≡ o → Meets S R n (λ b. τ ++ b) (λ b x. length b ≡ length (zeros (slot_size sub))) o (wrote_is (Refused k u)) z → Halts S R n k (text_element (env_of T S R) sub r t) u z
+      go : (o : Out Bytes) → slot ≡ o → Meets {A = Bytes} {X = Unit {0}} S R n (λ b. τ ++ b) (λ b x. length b ≡ length (zeros (slot_size sub))) o (refuses k u) z → Halts S R n k (text_element (env_of T S R) sub r t) u z
       go (done b t') g l = absurd l
       go (stop j es) g l = record { events = es; is = text_is (stop j es) g ∙ ap (λ (i : ℕ). stop i es) (sym l.0); stopped = l.1 }
 
@@ -183,9 +178,6 @@ module _ (R : Round) (n : ℕ) (s : Progress) (w T : Bytes) (sub first m : ℕ) 
     room : Safe R n (with_top q (q.top + slot_size sub))
     room = run_room any_schema R n s w (slot_size sub) 0 texts (rows_from first m) d a less
 
-    pub texts_room : Safe R n (with_top q (q.top + stride))
-    texts_room = rw slot room
-
     inside : q.top + slot_size sub ≤ n
     inside = omega (arith, room.stack, room.within, room.room)
 
@@ -194,20 +186,20 @@ module _ (R : Round) (n : ℕ) (s : Progress) (w T : Bytes) (sub first m : ℕ) 
       is : x ≡ unwrap_or (str_of T (row T (first + i))) []
       is = rw (← row_is) text_is
 
-      slots : (o r : Wrote) (z : Bytes) → r ≡ o → Slots R k (with_top q (q.top + stride)) v sub x q.top r z → Slots R n (with_top q (q.top + slot_size sub)) v sub x q.top o z
+      slots : (o r : Ans (Unit {0})) (z : Bytes) → r ≡ o → Slots R k (with_top q (q.top + stride)) v sub x q.top r z → Slots R n (with_top q (q.top + slot_size sub)) v sub x q.top o z
       slots o r z e g = rw (← same, ← slot, ← e) g
 
-      pub texts_turn : (u : Progress) (r : Wrote) (z : Bytes) → r ≡ Done u → Slots R k (with_top q (q.top + stride)) v sub x q.top r z → Texts u z (i + 1)
+      pub texts_turn : (u : Progress) (r : Ans (Unit {0})) (z : Bytes) → r ≡ gives (tt {0}) u → Slots R k (with_top q (q.top + stride)) v sub x q.top r z → Texts u z (i + 1)
       texts_turn u r z f g =
-          let e = slots (Done u) r z f g in
+          let e = slots (gives (tt {0}) u) r z f g in
           let b = e.grew.1 in
           run_turn any_schema R n s w (slot_size sub) 0 texts (rows_from first m) (first + i) a (row_ith first m i less) e.grew.0
           (record { more = b.more; paid = omega (arith, b.paid); top = omega (arith, b.top); met = omega (arith, b.met) })
           (λ S k t τ r. text_made S R n T sub (first + i) x is q v u z t τ e inside r)
 
-      pub texts_stopped : (p : Progress) (block j : ℕ) (u : Progress) (r : Wrote) (z : Bytes) → Paid R p (run_cost (slot_size sub) m) s → r ≡ Refused j u → Slots R k (with_top q (q.top + stride)) v sub x q.top r z
-          → Yields any_schema R n p w 0 (λ S. run (env_of T S R) (slot_size sub) block (text_element (env_of T S R) sub) (rows_from first m)) (Rn.Refused j u) z
+      pub texts_stopped : (p : Progress) (block j : ℕ) (u : Progress) (r : Ans (Unit {0})) (z : Bytes) → Paid R p (run_cost (slot_size sub) m) s → r ≡ refuses j u → Slots R k (with_top q (q.top + stride)) v sub x q.top r z
+          → Yields any_schema R n p w 0 (λ S. run (env_of T S R) (slot_size sub) block (text_element (env_of T S R) sub) (rows_from first m)) (refuses j u) z
       texts_stopped p block j u r z paid f g =
-          let e = slots (Refused j u) r z f g in
+          let e = slots (refuses j u) r z f g in
           run_stopped any_schema R n p w (slot_size sub) 0 m texts (rows_from first m) T block 0 (length_rows_from first m) (omega arith) (first + i) paid a (row_ith first m i less) e.grew
           (λ S k t τ r. text_halts S R n T sub (first + i) x is q v u z t τ j e inside r)

@@ -29,7 +29,7 @@ use Rattle.layout.specs.Runs.{Run, stops, run, text_run, fixed_run, enum_run, fi
 use Rattle.area.specs.declared.Round.{Round}
 use Rattle.area.specs.declared.Progress.{Progress}
 use Rattle.area.specs.Area.{used_in, env_of}
-use Rattle.area.specs.Posts.{Safe, Open, Notes, Marks}
+use Rattle.area.specs.Posts.{Safe, Open, Notes, Marks, Ans, gives, refuses}
 use Rattle.area.proofs.Flat.{padded_is}
 use Rattle.cells.specs.declared.defs.Def.{Def}
 use Rattle.cells.specs.declared.Cell.TheVariants as C
@@ -37,9 +37,7 @@ use Rattle.cells.specs.Names.{def_of, member_of, Named}
 use Rattle.cells.proofs.Planning.{named_own}
 use Rattle.cells.specs.Cells.{cell_bytes, cell_element, scalar_cell}
 use Rattle.members.specs.Posts.{remark_on, Marked, any_schema}
-use Rattle.members.proofs.Filling.{went_noted, went_marked}
-use Rattle.runs.specs.declared.Ran.{Ran}
-use Rattle.runs.specs.declared.Ran.TheVariants as Rn
+use Rattle.members.proofs.Filling.{went_noted}
 use Rattle.runs.specs.Posts.{Grew, Yields, plain_run}
 
 -- a remark stops a run
@@ -49,14 +47,14 @@ stops_is F d m kind detail s = refl
 
 module _ (R : Round) (n : ℕ) (p : Progress) (w : Bytes) where
   pub run_said : (d : Def) (m : coded.Member) (kind detail : ℕ) (q : Progress) (w' : Bytes) → Safe R n p → Open p → Notes R n p w (remark_on d m kind detail) q w'
-      → (F : Bytes) → Yields any_schema R n p w 1 (λ S. stops (def_of F d) (member_of m) kind detail) (Rn.Dropped q) w'
+      → (F : Bytes) → Yields any_schema R n p w 1 (λ S. stops (def_of F d) (member_of m) kind detail) (gives None q) w'
   run_said d m kind detail q w' h o t F = record {
     grew = went_noted R n p w (remark_on d m kind detail) q w' h o t;
     says = λ S k s σ r. rw (stops_is F d m kind detail s) (rw (append-nil σ) (t.says S s σ r), refl);
   }
 
   -- nothing is done
-  nothing_run : Safe R n p → Yields any_schema R n p w 0 (λ S. ret None) (Rn.Dropped p) w
+  nothing_run : Safe R n p → Yields any_schema R n p w 0 (λ S. ret None) (gives None p) w
   unfolding ret
   nothing_run h = record {
     grew = (h, record { more = omega arith; paid = omega arith; top = omega arith; met = omega arith });
@@ -64,13 +62,13 @@ module _ (R : Round) (n : ℕ) (p : Progress) (w : Bytes) where
   }
 
   -- fewer remarks than there may be
-  grew_more : (j k : ℕ) (r : Ran) → j ≤ k → Grew R n p j r → Grew R n p k r
-  grew_more j k (Rn.Kept b q) l h = h
-  grew_more j k (Rn.Dropped q) l h = (h.0, record { more = h.1.more; paid = h.1.paid; top = h.1.top; met = omega (arith, h.1.met, l) })
-  grew_more j k (Rn.Refused b q) l h = h
+  grew_more : (j k : ℕ) (r : Ans (Option ℕ)) → j ≤ k → Grew R n p j r → Grew R n p k r
+  grew_more j k (gives (Some b) q) l h = h
+  grew_more j k (gives None q) l h = (h.0, record { more = h.1.more; paid = h.1.paid; top = h.1.top; met = omega (arith, h.1.met, l) })
+  grew_more j k (refuses b q) l h = h
 
   -- another run that does the same, where less is known of the schema
-  pub yields_as : (known less : Schema → Type 0) (j k : ℕ) (f g : Schema → M (Option Run)) (r : Ran) (w' : Bytes) → j ≤ k
+  pub yields_as : (known less : Schema → Type 0) (j k : ℕ) (f g : Schema → M (Option Run)) (r : Ans (Option ℕ)) (w' : Bytes) → j ≤ k
       → ((S : Schema) → known S → less S × (f S ≡ g S)) → Yields less R n p w j g r w' → Yields known R n p w k f r w'
   yields_as known less j k f g r w' l e a =
       record { grew = grew_more j k r l a.grew; says = λ S z s σ q. rw (e S z).1 (a.says S (e S z).0 s σ q) }
@@ -157,21 +155,21 @@ unfolding enum_run use_enum_of
 enum_used E h en rs b e l = rw (e, enum_cells E h en l) refl
 
 module _ (R : Round) (n : ℕ) (p : Progress) (w T F : Bytes) (h : ℕ) (rs : List ℕ) (en : Entries) (name : Option ℕ) (is : Named F h en name) where
-  abbrev Enums : Ran → Bytes → Type 0
+  abbrev Enums : Ans (Option ℕ) → Bytes → Type 0
   Enums r v = Yields (λ S. schema_of F ≡ ok S) R n p w 0 (λ S. enum_run (env_of T S R) h rs) r v
 
   abbrev values : Schema → M (Option Run)
   values S = run (env_of T S R) 4 5 (cell_element T (C.Enum en 4) 4) rs
 
   -- no enum has the name
-  enums_none : (r : Ran) (w' : Bytes) → name ≡ None → Yields any_schema R n p w 0 values r w' → Enums r w'
+  enums_none : (r : Ans (Option ℕ)) (w' : Bytes) → name ≡ None → Yields any_schema R n p w 0 values r w' → Enums r w'
   unfolding if_m bind after ret
   enums_none r w' e a =
       yields_as R n p w (λ S. schema_of F ≡ ok S) any_schema 0 0 (λ S. enum_run (env_of T S R) h rs) values r w' (omega arith)
       (λ S k. (tt, enum_used (env_of T S R) h en rs false (is.used S k ∙ ap is_some e) (is.all S k) ∙ fun_ext λ s. refl)) a
 
   -- one has, and is used
-  enums_some : (q : Progress) (v : Bytes) (r : Ran) (w' : Bytes) → name ≡ Some h
+  enums_some : (q : Progress) (v : Bytes) (r : Ans (Option ℕ)) (w' : Bytes) → name ≡ Some h
       → Marks R n p w (λ S. is_some ((winning S).enum h)) (used_in h) q v → Yields any_schema R n q v 0 values r w' → Enums r w'
   unfolding if_m bind after use_enum log_enum on_core settle use_enum_c
   enums_some q v r w' e t a =
@@ -184,8 +182,8 @@ module _ (R : Round) (n : ℕ) (p : Progress) (w T F : Bytes) (h : ℕ) (rs : Li
             (a.says S tt (used_in h s) σ (t.says S s σ m y));
       }
     where
-      grew_then : (r : Ran) → Grew R n q 0 r → Grew R n p 0 r
-      grew_then (Rn.Kept b x) y =
+      grew_then : (r : Ans (Option ℕ)) → Grew R n q 0 r → Grew R n p 0 r
+      grew_then (gives (Some b) x) y =
           let z = y.2 in (
             y.0,
             omega (arith, y.1, t.top),
@@ -196,13 +194,13 @@ module _ (R : Round) (n : ℕ) (p : Progress) (w T F : Bytes) (h : ℕ) (rs : Li
               met = omega (arith, z.met, t.seen, t.charge);
             },
           )
-      grew_then (Rn.Dropped x) y =
+      grew_then (gives None x) y =
           let z = y.1 in
           (y.0, record { more = omega (arith, z.more, t.end); paid = omega (arith, z.paid, t.end, t.charge); top = omega (arith, z.top, t.top); met = omega (arith, z.met, t.seen, t.charge) })
-      grew_then (Rn.Refused b x) y = y
+      grew_then (refuses b x) y = y
 
   -- the enum is used, if it is there
-  pub enums : (q : Progress) (v : Bytes) (k : ℕ) (r : Ran) (w' : Bytes) → Marked R n p w name q v → k ≡ n → Yields any_schema R k q v 0 values r w' → Enums r w'
+  pub enums : (q : Progress) (v : Bytes) (k : ℕ) (r : Ans (Option ℕ)) (w' : Bytes) → Marked R n p w name q v → k ≡ n → Yields any_schema R k q v 0 values r w' → Enums r w'
   enums q v k r w' t u a = by name refl t (rw (← u) a)
     where
       by : (o : Option ℕ) → name ≡ o → Marked R n p w o q v → Yields any_schema R n q v 0 values r w' → Enums r w'
@@ -210,11 +208,6 @@ module _ (R : Round) (n : ℕ) (p : Progress) (w T F : Bytes) (h : ℕ) (rs : Li
       by (Some x) e m a =
           let i : x ≡ h = named_own F h en name is x e in
           enums_some q v r w' (rw (← i) e) (rw (← i) m) a
-
--- where an enum was used or not, the numbers stay in order
-pub marked_safe : (R : Round) (n : ℕ) (p : Progress) (w : Bytes) (name : Option ℕ) (q : Progress) (v : Bytes) → Safe R n p → Marked R n p w name q v → Safe R n q
-marked_safe R n p w None q v h m = rw m.0 h
-marked_safe R n p w (Some x) q v h m = (went_marked R n p w (λ S. is_some ((winning S).enum x)) (used_in x) w q v 0 h m).0
 
 -- runs by their elements' kind
 
@@ -225,7 +218,7 @@ scalar_cells E Kinds.single = refl
 scalar_cells E (Kinds.vector n) = refl
 
 -- kinds that are no elements
-abbrev is_strange : Kinds.Kind → Bool
+abbrev pub is_strange : Kinds.Kind → Bool
 is_strange (Kinds.scalar s) = false
 is_strange Kinds.text = false
 is_strange Kinds.structure = false
@@ -264,68 +257,68 @@ module _ (E : Env) (d : StructDef) (e x : Defs.Member) (rs : List ℕ) where
   strange_run Kinds.other h = refl
 
 module _ (R : Round) (n : ℕ) (p : Progress) (w T F : Bytes) (d : Def) (m x : coded.Member) (rs : List ℕ) where
-  abbrev Plain : Ran → Bytes → Type 0
+  abbrev Plain : Ans (Option ℕ) → Bytes → Type 0
   Plain r v = Yields (λ S. schema_of F ≡ ok S) R n p w 1 (λ S. plain_run (env_of T S R) (def_of F d) (member_of m) (member_of x) (Kinds.kind_of x.kind) rs) r v
 
   -- by a kind of which the run is known
-  plain_as : (less : Schema → Type 0) (j : ℕ) (k : Kinds.Kind) (g : Schema → M (Option Run)) (r : Ran) (w' : Bytes) → j ≤ 1 → Kinds.kind_of x.kind ≡ k
+  plain_as : (less : Schema → Type 0) (j : ℕ) (k : Kinds.Kind) (g : Schema → M (Option Run)) (r : Ans (Option ℕ)) (w' : Bytes) → j ≤ 1 → Kinds.kind_of x.kind ≡ k
       → ((S : Schema) → schema_of F ≡ ok S → less S × (plain_run (env_of T S R) (def_of F d) (member_of m) (member_of x) k rs ≡ g S)) → Yields less R n p w j g r w' → Plain r w'
   plain_as less j k g r w' l e i a =
       rw e (yields_as R n p w (λ S. schema_of F ≡ ok S) less j 1 (λ S. plain_run (env_of T S R) (def_of F d) (member_of m) (member_of x) k rs) g r w' l i a)
 
-  pub plain_scalar : (s : Kinds.Scalar) (stride block : ℕ) (r : Ran) (w' : Bytes) → Kinds.kind_of x.kind ≡ Kinds.scalar s → stride ≡ scalar_stride s → block ≡ scalar_block s x.kind
+  pub plain_scalar : (s : Kinds.Scalar) (stride block : ℕ) (r : Ans (Option ℕ)) (w' : Bytes) → Kinds.kind_of x.kind ≡ Kinds.scalar s → stride ≡ scalar_stride s → block ≡ scalar_block s x.kind
       → Yields any_schema R n p w 0 (λ S. run (env_of T S R) stride block (cell_element T (scalar_cell s) stride) rs) r w' → Plain r w'
   plain_scalar s stride block r w' k e b a =
       plain_as any_schema 0 (Kinds.scalar s) (λ S. run (env_of T S R) stride block (cell_element T (scalar_cell s) stride) rs) r w' (omega arith) k
       (λ S z. (tt, rw (e, b) (scalar_run (env_of T S R) (def_of F d) (member_of m) (member_of x) rs s))) a
 
-  pub plain_text : (r : Ran) (w' : Bytes) → Kinds.kind_of x.kind ≡ Kinds.text → Yields any_schema R n p w 1 (λ S. text_run (env_of T S R) (def_of F d) (member_of m) (member_of x) rs) r w' → Plain r w'
+  pub plain_text : (r : Ans (Option ℕ)) (w' : Bytes) → Kinds.kind_of x.kind ≡ Kinds.text → Yields any_schema R n p w 1 (λ S. text_run (env_of T S R) (def_of F d) (member_of m) (member_of x) rs) r w' → Plain r w'
   plain_text r w' k a =
       plain_as any_schema 1 Kinds.text (λ S. text_run (env_of T S R) (def_of F d) (member_of m) (member_of x) rs) r w' (omega arith) k
       (λ S z. (tt, text_run_law (env_of T S R) (def_of F d) (member_of m) (member_of x) rs)) a
 
-  pub plain_enum : (r : Ran) (w' : Bytes) → Kinds.kind_of x.kind ≡ Kinds.enumeration → Yields (λ S. schema_of F ≡ ok S) R n p w 0 (λ S. enum_run (env_of T S R) x.reference rs) r w' → Plain r w'
+  pub plain_enum : (r : Ans (Option ℕ)) (w' : Bytes) → Kinds.kind_of x.kind ≡ Kinds.enumeration → Yields (λ S. schema_of F ≡ ok S) R n p w 0 (λ S. enum_run (env_of T S R) x.reference rs) r w' → Plain r w'
   plain_enum r w' k a =
       plain_as (λ S. schema_of F ≡ ok S) 0 Kinds.enumeration (λ S. enum_run (env_of T S R) x.reference rs) r w' (omega arith) k
       (λ S z. (z, enum_run_law (env_of T S R) (def_of F d) (member_of m) (member_of x) rs)) a
 
-  pub plain_structure : Safe R n p → Kinds.kind_of x.kind ≡ Kinds.structure → Plain (Rn.Dropped p) w
+  pub plain_structure : Safe R n p → Kinds.kind_of x.kind ≡ Kinds.structure → Plain (gives None p) w
   plain_structure h k =
-      plain_as any_schema 0 Kinds.structure (λ S. ret None) (Rn.Dropped p) w (omega arith) k (λ S z. (tt, structure_run (env_of T S R) (def_of F d) (member_of m) (member_of x) rs))
+      plain_as any_schema 0 Kinds.structure (λ S. ret None) (gives None p) w (omega arith) k (λ S z. (tt, structure_run (env_of T S R) (def_of F d) (member_of m) (member_of x) rs))
       (nothing_run R n p w h)
 
-  pub plain_strange : (k : Kinds.Kind) (r : Ran) (w' : Bytes) → Kinds.kind_of x.kind ≡ k → is_strange k ≡ true → Yields any_schema R n p w 1 (λ S. stops (def_of F d) (member_of m) 12 x.kind) r w' → Plain r w'
+  pub plain_strange : (k : Kinds.Kind) (r : Ans (Option ℕ)) (w' : Bytes) → Kinds.kind_of x.kind ≡ k → is_strange k ≡ true → Yields any_schema R n p w 1 (λ S. stops (def_of F d) (member_of m) 12 x.kind) r w' → Plain r w'
   plain_strange k r w' e h a =
       plain_as any_schema 1 k (λ S. stops (def_of F d) (member_of m) 12 x.kind) r w' (omega arith) e (λ S z. (tt, strange_run (env_of T S R) (def_of F d) (member_of m) (member_of x) rs k h)) a
 
   -- texts, by their subtype
-  abbrev TextRuns : Ran → Bytes → Type 0
+  abbrev TextRuns : Ans (Option ℕ) → Bytes → Type 0
   TextRuns r v = Yields any_schema R n p w 1 (λ S. text_run (env_of T S R) (def_of F d) (member_of m) (member_of x) rs) r v
 
-  texts_as : (j : ℕ) (g : Schema → M (Option Run)) (r : Ran) (w' : Bytes) → j ≤ 1 → ((S : Schema) → text_run (env_of T S R) (def_of F d) (member_of m) (member_of x) rs ≡ g S)
+  texts_as : (j : ℕ) (g : Schema → M (Option Run)) (r : Ans (Option ℕ)) (w' : Bytes) → j ≤ 1 → ((S : Schema) → text_run (env_of T S R) (def_of F d) (member_of m) (member_of x) rs ≡ g S)
       → Yields any_schema R n p w j g r w' → TextRuns r w'
   texts_as j g r w' l e a = yields_as R n p w any_schema any_schema j 1 (λ S. text_run (env_of T S R) (def_of F d) (member_of m) (member_of x) rs) g r w' l (λ S z. (tt, e S)) a
 
-  pub texts_zero : (len : ℕ) (r : Ran) (w' : Bytes) → x.subtype ≡ 0 → len ≡ high16 x.reference → len ≡ 0 → Yields any_schema R n p w 1 (λ S. stops (def_of F d) (member_of m) 10 0) r w' → TextRuns r w'
+  pub texts_zero : (len : ℕ) (r : Ans (Option ℕ)) (w' : Bytes) → x.subtype ≡ 0 → len ≡ high16 x.reference → len ≡ 0 → Yields any_schema R n p w 1 (λ S. stops (def_of F d) (member_of m) 10 0) r w' → TextRuns r w'
   texts_zero len r w' h l z a =
       texts_as 1 (λ S. stops (def_of F d) (member_of m) 10 0) r w' (omega arith) (λ S. text_zero (env_of T S R) (def_of F d) (member_of m) (member_of x) rs len h l z) a
 
-  pub texts_fixed : (len : ℕ) (r : Ran) (w' : Bytes) → x.subtype ≡ 0 → len ≡ high16 x.reference → (len ≡ 0 → ⊥)
+  pub texts_fixed : (len : ℕ) (r : Ans (Option ℕ)) (w' : Bytes) → x.subtype ≡ 0 → len ≡ high16 x.reference → (len ≡ 0 → ⊥)
       → Yields any_schema R n p w 0 (λ S. run (env_of T S R) len 1 (cell_element T (C.Fixed len) len) rs) r w' → TextRuns r w'
   texts_fixed len r w' h l z a =
       texts_as 0 (λ S. run (env_of T S R) len 1 (cell_element T (C.Fixed len) len) rs) r w' (omega arith) (λ S. text_cells (env_of T S R) (def_of F d) (member_of m) (member_of x) rs len h l z) a
 
-  pub texts_pointed : (r : Ran) (w' : Bytes) → (x.subtype ≡ 0 → ⊥) → x.subtype < 4
+  pub texts_pointed : (r : Ans (Option ℕ)) (w' : Bytes) → (x.subtype ≡ 0 → ⊥) → x.subtype < 4
       → Yields any_schema R n p w 0 (λ S. run (env_of T S R) (slot_size x.subtype) (slot_block x.subtype) (text_element (env_of T S R) x.subtype) rs) r w' → TextRuns r w'
   texts_pointed r w' h l a =
       texts_as 0 (λ S. run (env_of T S R) (slot_size x.subtype) (slot_block x.subtype) (text_element (env_of T S R) x.subtype) rs) r w' (omega arith)
       (λ S. text_pointers (env_of T S R) (def_of F d) (member_of m) (member_of x) rs h l) a
 
-  pub texts_hashed : (r : Ran) (w' : Bytes) → 7 ≤ x.subtype → x.subtype < 9 → Yields any_schema R n p w 0 (λ S. run (env_of T S R) 4 6 (cell_element T C.Hash 4) rs) r w' → TextRuns r w'
+  pub texts_hashed : (r : Ans (Option ℕ)) (w' : Bytes) → 7 ≤ x.subtype → x.subtype < 9 → Yields any_schema R n p w 0 (λ S. run (env_of T S R) 4 6 (cell_element T C.Hash 4) rs) r w' → TextRuns r w'
   texts_hashed r w' h l a =
       texts_as 0 (λ S. run (env_of T S R) 4 6 (cell_element T C.Hash 4) rs) r w' (omega arith) (λ S. text_hashes (env_of T S R) (def_of F d) (member_of m) (member_of x) rs h l) a
 
-  pub texts_strange : {A B : Type 0} (r : Ran) (w' : Bytes) → 4 ≤ x.subtype → (A → x.subtype < 7) → (B → 9 ≤ x.subtype) → A ⊎ B
+  pub texts_strange : {A B : Type 0} (r : Ans (Option ℕ)) (w' : Bytes) → 4 ≤ x.subtype → (A → x.subtype < 7) → (B → 9 ≤ x.subtype) → A ⊎ B
       → Yields any_schema R n p w 1 (λ S. stops (def_of F d) (member_of m) 11 x.subtype) r w' → TextRuns r w'
   texts_strange r w' h f g l a =
       texts_as 1 (λ S. stops (def_of F d) (member_of m) 11 x.subtype) r w' (omega arith) (λ S. text_stops (env_of T S R) (def_of F d) (member_of m) (member_of x) rs h f g l) a

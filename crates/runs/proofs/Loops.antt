@@ -3,10 +3,10 @@ use Rattle.std.specs.Prelude.{Option, Some, None, option_map}
 use mathlib.Core.Path.{◌≡◌, refl, sym, ap, subst, ◌∙◌}
 use mathlib.Core.Bool.{Bool, true, false}
 use mathlib.Core.List.{List, [], ◌∷◌, ◌++◌, append_assoc, append-nil}
-use Prim.Native.Nat.{ℕ, zero, suc, ◌+◌, ◌-◌, ◌*◌, ◌^◌, ◌≤◌, ◌<◌}
+use Prim.Native.Nat.{ℕ, zero, suc, ◌+◌, ◌-◌, ◌*◌, ◌≤◌, ◌<◌}
 use native.Mathlib.Omega.{arith}
 use borrow.Author.Tests.{leb-true}
-use native.Mathlib.Nat.{mul-le-mul, mul-le-mul_left, mul-le-mul_right, mul_assoc}
+use native.Mathlib.Nat.{mul-le-mul_left, mul-le-mul_right, mul_assoc}
 use lib.Dec.{leb}
 use lib.ListN.{length, drop, length-append, drop_of_length-le}
 use Rattle.numbers.specs.Words.{Bytes}
@@ -17,15 +17,9 @@ use Rattle.layout.specs.Runs.{Run, elements, run}
 use Rattle.area.specs.declared.Round.{Round}
 use Rattle.area.specs.declared.Progress.{Progress}
 use Rattle.area.specs.Area.{stack_at, Rep, with_top, with_paid, env_of}
-use Rattle.area.specs.Posts.{Safe, Grown, Stopped}
+use Rattle.area.specs.Posts.{Fell, Safe, Grown, Stopped, Ans, gives, refuses, paid_is}
 use Rattle.area.proofs.Reps.{rep_pop}
-use Rattle.members.specs.declared.Wrote.{Wrote}
-use Rattle.members.specs.declared.Wrote.TheVariants.{Done, Refused}
-use Rattle.members.specs.Posts.{paid_is}
 use Rattle.members.proofs.Slotting.{paid_yes, paid_no, rep_paid, safe_paid}
-use Rattle.runs.specs.declared.Ran.{Ran}
-use Rattle.runs.specs.declared.Ran.TheVariants as Rn
-use Rattle.members.specs.Posts.{Fell}
 use Rattle.runs.specs.Posts.{Yields}
 
 -- what the elements so far give stands before what the others give
@@ -129,13 +123,10 @@ pub record Paid (R : Round) (p : Progress) (c : ℕ) (s : Progress) : Type 0 whe
   pub enough : leb (p.charge + c) R.cap ≡ true
   pub is : with_paid p (p.charge + c) ≡ s
 
-pub paid_done : (R : Round) (p : Progress) (c d : ℕ) (r : Wrote) (s : Progress) → d ≡ c → r ≡ paid_is R p d → r ≡ Done s → Paid R p c s
+pub paid_done : (R : Round) (p : Progress) (c d : ℕ) (r : Ans (Unit {0})) (s : Progress) → d ≡ c → r ≡ paid_is R p d → r ≡ gives (tt {0}) s → Paid R p c s
 paid_done R p c d r s e g h = let (a, b) = paid_yes R p c r s (g ∙ ap (paid_is R p) e) h in record { enough = a; is = sym b }
 
-pub paid_top : {R : Round} {p s : Progress} {c : ℕ} → Paid R p c s → s.top ≡ p.top
-paid_top d = ap (λ (q : Progress). q.top) (sym d.is)
-
-pub paid_not : (R : Round) (p : Progress) (c d k : ℕ) (r : Wrote) (q : Progress) → d ≡ c → r ≡ paid_is R p d → r ≡ Refused k q → (leb (p.charge + c) R.cap ≡ false) × (9 ≡ k) × (p ≡ q)
+pub paid_not : (R : Round) (p : Progress) (c d k : ℕ) (r : Ans (Unit {0})) (q : Progress) → d ≡ c → r ≡ paid_is R p d → r ≡ refuses k q → (leb (p.charge + c) R.cap ≡ false) × (9 ≡ k) × (p ≡ q)
 paid_not R p c d k r q e g h = let (a, b, z) = paid_no R p c r k q (g ∙ ap (paid_is R p) e) h in (a, sym b, sym z)
 
 -- there is room for m elements of `stride` bytes
@@ -146,12 +137,6 @@ pub record Ready (R : Round) (n stride m : ℕ) (s : Progress) : Type 0 where
 -- what m elements of `stride` bytes cost
 abbrev pub run_cost : ℕ → ℕ → ℕ
 run_cost stride m = 16 + stride * m
-
--- .. has 8 bytes
-pub product_small : (a b : ℕ) → a < 2 ^ 32 → b < 2 ^ 32 → (a * b < 2 ^ 64) × (16 + a * b < 2 ^ 64)
-product_small a b h k =
-    let x : a * b ≤ 4294967295 * 4294967295 = mul-le-mul {n₂ = 4294967295} {m₂ = 4294967295} (omega (arith, h)) (omega (arith, k)) in
-    (omega (arith, x), omega (arith, x))
 
 pub ready : {R : Round} {n : ℕ} {p s : Progress} (stride m : ℕ) → Safe R n p → Paid R p (run_cost stride m) s → Ready R n stride m s
 ready {R} {n} {p} stride m h d =
@@ -250,7 +235,7 @@ module _ (known : Schema → Type 0) (R : Round) (n : ℕ) (s : Progress) (w : B
       }
 
 module _ (known : Schema → Type 0) (R : Round) (n : ℕ) (p : Progress) (w : Bytes) (stride each m : ℕ) {X : Type 0} (f : Schema → X → M (Option Bytes)) (xs : List X) (T : Bytes) (block notes : ℕ) (many : length xs ≡ m) (cheap : each ≤ 65536 * stride) where
-  abbrev Post : Ran → Bytes → Type 0
+  abbrev Post : Ans (Option ℕ) → Bytes → Type 0
   Post r v = Yields known R n p w notes (λ S. run (env_of T S R) stride block (f S) xs) r v
 
   test : {b : Bool} (S : Schema) (t : State) (σ : Bytes) → Rep S R n t σ p w → leb (p.charge + run_cost stride m) R.cap ≡ b → leb (t.charge + run_cost stride m) R.cap ≡ b
@@ -271,7 +256,7 @@ module _ (known : Schema → Type 0) (R : Round) (n : ℕ) (p : Progress) (w : B
       omega (arith, a, b, c)
 
   -- all are written
-  pub run_kept : {s q : Progress} {v : Bytes} {i : ℕ} → Paid R p (run_cost stride m) s → Running known R n s w stride each f xs q v i → i ≡ m → Post (Rn.Kept block q) v
+  pub run_kept : {s q : Progress} {v : Bytes} {i : ℕ} → Paid R p (run_cost stride m) s → Running known R n s w stride each f xs q v i → i ≡ m → Post (gives (Some block) q) v
   run_kept {s} {q} {v} {i} d a e =
       let b = grown_then d a.grown in
       record {
@@ -284,7 +269,7 @@ module _ (known : Schema → Type 0) (R : Round) (n : ℕ) (p : Progress) (w : B
 
   -- an element fails, and those before it are taken off the stack
   pub run_dropped : {s q q' u : Progress} {v v' v'' : Bytes} {i : ℕ} (x : X) → Safe R n p → Paid R p (run_cost stride m) s → Running known R n s w stride each f xs q v i → i < m → Ith x i xs → Safe R n q'
-      → Grown q 0 0 0 q' → ((S : Schema) → known S → (t : State) (τ : Bytes) → Rep S R n t τ q v → Fails S R n τ (f S x t) q' v') → Fell q' p.top v' u v'' → Post (Rn.Dropped u) v''
+      → Grown q 0 0 0 q' → ((S : Schema) → known S → (t : State) (τ : Bytes) → Rep S R n t τ q v → Fails S R n τ (f S x t) q' v') → Fell q' p.top v' u v'' → Post (gives None u) v''
   run_dropped {s} {q} {q'} {u} {v} {v'} {v''} {i} x o d a few e h g l y =
       let b = grown_then d a.grown in
       rw (y.number, y.area)
@@ -318,7 +303,7 @@ module _ (known : Schema → Type 0) (R : Round) (n : ℕ) (p : Progress) (w : B
 
   -- an element is refused
   pub run_stopped : {s q q' : Progress} {v v' : Bytes} {i k : ℕ} (x : X) → Paid R p (run_cost stride m) s → Running known R n s w stride each f xs q v i → Ith x i xs → Safe R n q'
-      → ((S : Schema) → known S → (t : State) (τ : Bytes) → Rep S R n t τ q v → Halts S R n k (f S x t) q' v') → Post (Rn.Refused k q') v'
+      → ((S : Schema) → known S → (t : State) (τ : Bytes) → Rep S R n t τ q v → Halts S R n k (f S x t) q' v') → Post (refuses k q') v'
   run_stopped {s} {q} {q'} {v} {v'} {i} {k} x d a e h l = record {
     grew = h;
     says =
@@ -329,7 +314,7 @@ module _ (known : Schema → Type 0) (R : Round) (n : ℕ) (p : Progress) (w : B
   }
 
   -- the charge is not enough
-  pub run_too_dear : (c : ℕ) (r : Wrote) (k : ℕ) (q : Progress) → Safe R n p → c ≡ run_cost stride m → r ≡ paid_is R p c → r ≡ Refused k q → Post (Rn.Refused k q) w
+  pub run_too_dear : (c : ℕ) (r : Ans (Unit {0})) (k : ℕ) (q : Progress) → Safe R n p → c ≡ run_cost stride m → r ≡ paid_is R p c → r ≡ refuses k q → Post (refuses k q) w
   run_too_dear c r k q h e g d =
       let z = paid_not R p (run_cost stride m) c k r q e g d in
       rw (← z.1, ← z.2)

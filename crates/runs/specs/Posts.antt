@@ -14,34 +14,26 @@ use Rattle.area.specs.Area.{Rep}
 use Rattle.area.specs.Posts.{Safe, Grown, noted_in, Ans, gives, refuses, Meets}
 use Rattle.cells.specs.declared.defs.Def.{Def}
 use Rattle.members.specs.Posts.{remark_on}
-use Rattle.runs.specs.declared.Ran.{Ran}
-use Rattle.runs.specs.declared.Ran.TheVariants as Rn
 
--- the name of the run's block, or none where it is dropped
-abbrev pub ran_is : Ran → Ans (Option ℕ)
-ran_is (Rn.Kept b q) = gives (Some b) q
-ran_is (Rn.Dropped q) = gives None q
-ran_is (Rn.Refused k q) = refuses k q
-
--- a remark is met, and the run is dropped
-abbrev pub stop_in : Round → Progress → Bytes → Def → coded.Member → ℕ → ℕ → Ran × Bytes
-stop_in R p w d m kind detail = let x = noted_in R p w (remark_on d m kind detail) in (Rn.Dropped x.0, x.1)
+-- a remark is met
+abbrev pub stop_in : Round → Progress → Bytes → Def → coded.Member → ℕ → ℕ → Progress × Bytes
+stop_in R p w d m kind detail = noted_in R p w (remark_on d m kind detail)
 
 -- .. after a run's writer: the bytes that it pushed are paid for, with 16 more
-abbrev pub Grew : Round → ℕ → Progress → ℕ → Ran → Type 0
-Grew R n p notes (Rn.Kept b q) = Safe R n q × (p.top ≤ q.top) × Grown p (16 + (q.top - p.top)) (q.top - p.top) 0 q
-Grew R n p notes (Rn.Dropped q) = Safe R n q × Grown p 0 0 notes q
-Grew R n p notes (Rn.Refused k q) = Safe R n q
+abbrev pub Grew : Round → ℕ → Progress → ℕ → Ans (Option ℕ) → Type 0
+Grew R n p notes (gives (Some b) q) = Safe R n q × (p.top ≤ q.top) × Grown p (16 + (q.top - p.top)) (q.top - p.top) 0 q
+Grew R n p notes (gives None q) = Safe R n q × Grown p 0 0 notes q
+Grew R n p notes (refuses k q) = Safe R n q
 
 -- a run's bytes
 abbrev pub run_bytes : Option Run → Bytes
 run_bytes o = unwrap_or (option_map (λ r. r.bytes) o) []
 
 -- a run is written: f gives its bytes, which are then on top of the stack, or none
-pub record Yields (known : Schema → Type 0) (R : Round) (n : ℕ) (p : Progress) (w : Bytes) (notes : ℕ) (f : Schema → M (Option Run)) (r : Ran) (w' : Bytes) : Type 0 where
+pub record Yields (known : Schema → Type 0) (R : Round) (n : ℕ) (p : Progress) (w : Bytes) (notes : ℕ) (f : Schema → M (Option Run)) (r : Ans (Option ℕ)) (w' : Bytes) : Type 0 where
   pub grew : Grew R n p notes r
   pub says : (S : Schema) → known S → (s : State) (σ : Bytes) → Rep S R n s σ p w
-      → Meets S R n (λ o. σ ++ run_bytes o) (λ o x. option_map (λ r. r.block) o ≡ x) (f S s) (ran_is r) w'
+      → Meets S R n (λ o. σ ++ run_bytes o) (λ o x. option_map (λ r. r.block) o ≡ x) (f S s) r w'
 
 -- a run whose elements lead to no structure
 unfoldable pub plain_run : Env → StructDef → Defs.Member → Defs.Member → Kinds.Kind → List ℕ → M (Option Run)

@@ -11,4 +11,4 @@ returns-in_err-place c =
 pub returns : goal.returns
 returns c =
     let f = c.in_ok-place.ensures in
-    looked_at_law c.args.schema.now c.args.name c.in_ok-place.place _ f.result_value (f.structure_value refl) c.read_head-head.ensures
+    looked_at_law c.args.schema.now c.args.name c.in_ok-place.place _ f.result_value (f.structure_value refl) c.def_at.ensures

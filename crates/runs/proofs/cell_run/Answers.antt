@@ -1,99 +1,89 @@
 -- `runs::cell_run` meets its contract. Assumes nothing.
-use Prim.Native.Nat.{◌+◌}
 use mathlib.Core.Path.{refl, ◌∙◌}
 use native.Mathlib.Omega.{arith}
 use lib.ListN.{length}
-use borrow.Rule.Slice.PartMut.{mid_len}
+use borrow.Author.Rules.{rules}
+use Rattle.std.proofs.lemmas.Result.{err_from_is_err_and}
 use Rattle.value.specs.Rows.{rows_from}
 use Rattle.cells.specs.Cells.{cell_element}
 use Rattle.members.specs.Posts.{any_schema}
-use Rattle.runs.proofs.Loops.{run_cost, paid_done, paid_top, ready, length_rows_from, run_begin, run_kept, run_too_dear}
-use Rattle.runs.proofs.CellRuns.{cells_room, cells_turn, cells_dropped, cells_stopped}
+use Rattle.area.proofs.Stepping.{same_then}
+use Rattle.runs.proofs.Loops.{run_cost, paid_done, ready, length_rows_from, run_kept, run_too_dear}
+use Rattle.runs.proofs.CellRuns.{cells_turn, cells_dropped, cells_stopped}
 use Rattle.runs.proofs.cell_run.Goals as goal
 
-pub loop-i-init : goal.loop-i-init
-loop-i-init c =
-    let a = c.args in
-    (omega arith, refl, λ R d. run_begin any_schema R (length a.work.now) c.in-Done.s a.work.now a.stride 0 (λ S r. cell_element a.sheet.now a.cell a.stride r) (rows_from a.first a.n) d.safe)
-
-pub overflow_add-stop : goal.overflow_add-stop
-overflow_add-stop c =
-    let a = c.args in
-    let l = c.loop-i in
-    let d = paid_done a.round a.p (run_cost a.stride a.n) c.run_cost.result c.pay.result c.in-Done.s c.run_cost.ensures c.pay.ensures c.in-Done.is in
-    let r = ready a.stride a.n c.requires.safe d in
-    let u = l.invariant.2 a.round r in
-    record { fits = omega (arith, cells_room a.round (length a.work.now) c.in-Done.s a.work.now a.sheet.now a.cell a.stride a.first a.n l.q l.work l.i r u c.loop-i-test.true, c.well_formed) }
-
-pub slice_bounds-put_cell-end : goal.slice_bounds-put_cell-end
-slice_bounds-put_cell-end c =
-    let a = c.args in
-    let l = c.loop-i in
-    let d = paid_done a.round a.p (run_cost a.stride a.n) c.run_cost.result c.pay.result c.in-Done.s c.run_cost.ensures c.pay.ensures c.in-Done.is in
-    let r = ready a.stride a.n c.requires.safe d in
-    let u = l.invariant.2 a.round r in
-    rw l.invariant.1 (cells_room a.round (length a.work.now) c.in-Done.s a.work.now a.sheet.now a.cell a.stride a.first a.n l.q l.work l.i r u c.loop-i-test.true)
-
-pub put_cell-requires : goal.put_cell-requires
-put_cell-requires c =
-    let a = c.args in
-    let l = c.loop-i in
-    let d = paid_done a.round a.p (run_cost a.stride a.n) c.run_cost.result c.pay.result c.in-Done.s c.run_cost.ensures c.pay.ensures c.in-Done.is in
-    let r = ready a.stride a.n c.requires.safe d in
-    let u = l.invariant.2 a.round r in
-    (c.requires.sane.0, omega (arith, c.requires.sane.1, mid_len l.q.top (l.q.top + a.stride) l.work (rw l.invariant.1 (cells_room a.round (length a.work.now) c.in-Done.s a.work.now a.sheet.now a.cell a.stride a.first a.n l.q l.work l.i r u c.loop-i-test.true))))
-
-pub drop_run-requires : goal.drop_run-requires
-drop_run-requires c =
-    let a = c.args in
-    let l = c.loop-i in
-    let d = paid_done a.round a.p (run_cost a.stride a.n) c.run_cost.result c.pay.result c.in-Done.s c.run_cost.ensures c.pay.ensures c.in-Done.is in
-    let r = ready a.stride a.n c.requires.safe d in
-    let u = l.invariant.2 a.round r in
-    (omega (arith, u.grown.top, paid_top d), rw (c.work-1.given.1, l.invariant.1) (omega (arith, cells_room a.round (length a.work.now) c.in-Done.s a.work.now a.sheet.now a.cell a.stride a.first a.n l.q l.work l.i r u c.loop-i-test.true)))
+pub returns-in_err-pay : goal.returns-in_err-pay
+returns-in_err-pay c =
+    let g = c.args in
+    let a = g.area.now in
+    let x = err_from_is_err_and c.from_residual.result c.from_residual.ensures.1 in
+    let e = c.in_err-pay.ensures in
+    rw (x.1, x.2)
+    record {
+      same = e.same;
+      did = rw e.did.area
+          (run_too_dear any_schema a.round (length a.bytes.now) a.progress a.bytes.now g.stride 0 g.rows.count (λ S r. cell_element g.sheet.now g.cell g.stride r) (rows_from g.rows.first g.rows.count)
+          g.sheet.now g.block 0 (length_rows_from g.rows.first g.rows.count) (omega arith) c.cost.result _ _ _ a.safe c.cost.ensures e.did.answer refl);
+    }
 
 pub returns-in-Err-Unfit : goal.returns-in-Err-Unfit
 returns-in-Err-Unfit c =
-    let a = c.args in
+    let g = c.args in
+    let a = g.area.now in
+    let b = c.pay.new.self in
+    let e = c.in_ok-pay.ensures in
     let l = c.loop-i in
-    let d = paid_done a.round a.p (run_cost a.stride a.n) c.run_cost.result c.pay.result c.in-Done.s c.run_cost.ensures c.pay.ensures c.in-Done.is in
-    let r = ready a.stride a.n c.requires.safe d in
-    let u = l.invariant.2 a.round r in
-    cells_dropped a.round (length a.work.now) c.in-Done.s a.work.now a.sheet.now a.cell a.stride a.first a.n l.q l.work l.i r u c.loop-i-test.true c.read_row-v.result c.read_row-v.ensures c.put_cell.new.buf a.p a.block c.requires.safe d c.drop_run.result c.drop_run.new.work (rw c.in-Err-Unfit.field-0-is at c.in-Err-Unfit.ensures) c.drop_run.ensures
+    let h = same_then e.same l.invariant.0 in
+    let k = c.drop_to.ensures in
+    let d = paid_done a.round a.progress (run_cost g.stride g.rows.count) c.cost.result _ b.progress c.cost.ensures e.did.answer refl in
+    let r = ready g.stride g.rows.count a.safe d in
+    let u = rw (e.same.round, e.did.area) at l.invariant.2 in
+    record {
+      same = record { bytes = k.same.bytes ∙ h.bytes; size = search (rules, k.same.size, h.size); round = k.same.round ∙ h.round };
+      did = cells_dropped a.round (length a.bytes.now) b.progress a.bytes.now g.sheet.now g.cell g.stride g.rows.first g.rows.count l.area.progress l.area.bytes.now l.i r u c.loop-i-test.true
+          c.read_row-v.result (rw c.row.ensures at c.read_row-v.ensures) c.put_cell.new.buf a.progress g.block a.safe d _ _ (rw c.in-Err-Unfit.field-0-is at c.in-Err-Unfit.ensures) k.did;
+    }
 
 pub returns-in-Err-FloatText : goal.returns-in-Err-FloatText
 returns-in-Err-FloatText c =
-    let a = c.args in
+    let g = c.args in
+    let a = g.area.now in
+    let b = c.pay.new.self in
+    let e = c.in_ok-pay.ensures in
     let l = c.loop-i in
-    let d = paid_done a.round a.p (run_cost a.stride a.n) c.run_cost.result c.pay.result c.in-Done.s c.run_cost.ensures c.pay.ensures c.in-Done.is in
-    let r = ready a.stride a.n c.requires.safe d in
-    let u = l.invariant.2 a.round r in
-    cells_stopped a.round (length a.work.now) c.in-Done.s a.work.now a.sheet.now a.cell a.stride a.first a.n l.q l.work l.i r u c.loop-i-test.true c.read_row-v.result c.read_row-v.ensures c.put_cell.new.buf a.p a.block c.requires.safe d (rw c.in-Err-FloatText.field-0-is at c.in-Err-FloatText.ensures)
-
-pub overflow_add-i : goal.overflow_add-i
-overflow_add-i c =
-    let a = c.args in
-    record { fits = omega (arith, c.loop-i-test.true, c.ranges.n.fits) }
+    let h = same_then e.same l.invariant.0 in
+    let d = paid_done a.round a.progress (run_cost g.stride g.rows.count) c.cost.result _ b.progress c.cost.ensures e.did.answer refl in
+    let r = ready g.stride g.rows.count a.safe d in
+    let u = rw (e.same.round, e.did.area) at l.invariant.2 in
+    record {
+      same = record { bytes = h.bytes; size = search (rules, h.size); round = h.round };
+      did = cells_stopped a.round (length a.bytes.now) b.progress a.bytes.now g.sheet.now g.cell g.stride g.rows.first g.rows.count l.area.progress l.area.bytes.now l.i r u c.loop-i-test.true
+          c.read_row-v.result (rw c.row.ensures at c.read_row-v.ensures) c.put_cell.new.buf a.progress g.block a.safe d (rw c.in-Err-FloatText.field-0-is at c.in-Err-FloatText.ensures);
+    }
 
 pub loop-i-preserved : goal.loop-i-preserved
 loop-i-preserved c =
-    let a = c.args in
+    let g = c.args in
+    let b = c.pay.new.self in
     let l = c.loop-i in
-    let d = paid_done a.round a.p (run_cost a.stride a.n) c.run_cost.result c.pay.result c.in-Done.s c.run_cost.ensures c.pay.ensures c.in-Done.is in
-    let r = ready a.stride a.n c.requires.safe d in
-    let u = l.invariant.2 a.round r in
-    (omega (arith, c.loop-i-test.true), c.work-1.given.1 ∙ l.invariant.1, λ R r. let u = l.invariant.2 R r in cells_turn R (length a.work.now) c.in-Done.s a.work.now a.sheet.now a.cell a.stride a.first a.n l.q l.work l.i r u c.loop-i-test.true c.read_row-v.result c.read_row-v.ensures c.put_cell.new.buf c.in-Ok.ensures l.invariant.1 c.work-1.given.0)
+    let i = l.invariant in (
+      record { bytes = i.0.bytes; size = search (rules, i.0.size); round = i.0.round },
+      i.1,
+      cells_turn b.round (length b.bytes.now) b.progress b.bytes.now g.sheet.now g.cell g.stride g.rows.first g.rows.count l.area.progress l.area.bytes.now l.i i.1 i.2 c.loop-i-test.true
+          c.read_row-v.result (rw c.row.ensures at c.read_row-v.ensures) c.put_cell.new.buf c.in-Ok.ensures i.0.size c.put_cell.auto.buf,
+    )
 
-pub returns-in-Refused : goal.returns-in-Refused
-returns-in-Refused c =
-    let a = c.args in
-    run_too_dear any_schema a.round (length a.work.now) a.p a.work.now a.stride 0 a.n (λ S r. cell_element a.sheet.now a.cell a.stride r) (rows_from a.first a.n) a.sheet.now a.block 0 (length_rows_from a.first a.n) (omega arith) c.run_cost.result c.pay.result c.in-Refused.k c.in-Refused.q c.requires.safe c.run_cost.ensures c.pay.ensures c.in-Refused.is
-
-pub returns-after-loop-i : goal.returns-after-loop-i
-returns-after-loop-i c =
-    let a = c.args in
+pub returns : goal.returns
+returns c =
+    let g = c.args in
+    let a = g.area.now in
+    let b = c.pay.new.self in
+    let e = c.in_ok-pay.ensures in
     let l = c.loop-i in
-    let d = paid_done a.round a.p (run_cost a.stride a.n) c.run_cost.result c.pay.result c.in-Done.s c.run_cost.ensures c.pay.ensures c.in-Done.is in
-    let r = ready a.stride a.n c.requires.safe d in
-    let u = l.invariant.2 a.round r in
-    run_kept any_schema a.round (length a.work.now) a.p a.work.now a.stride 0 a.n (λ S r. cell_element a.sheet.now a.cell a.stride r) (rows_from a.first a.n) a.sheet.now a.block 0 (length_rows_from a.first a.n) (omega arith) d u (omega (arith, l.invariant.0, c.loop-i-test.false))
+    let d = paid_done a.round a.progress (run_cost g.stride g.rows.count) c.cost.result _ b.progress c.cost.ensures e.did.answer refl in
+    let u = rw (e.same.round, e.did.area) at l.invariant.2 in
+    record {
+      same = same_then e.same l.invariant.0;
+      did = run_kept any_schema a.round (length a.bytes.now) a.progress a.bytes.now g.stride 0 g.rows.count (λ S r. cell_element g.sheet.now g.cell g.stride r) (rows_from g.rows.first g.rows.count)
+          g.sheet.now g.block 0 (length_rows_from g.rows.first g.rows.count) (omega arith) d u (omega (arith, l.invariant.0, c.loop-i-test.false));
+    }

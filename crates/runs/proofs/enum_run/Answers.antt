@@ -1,15 +1,19 @@
 -- `runs::enum_run` meets its contract. Assumes nothing.
-use native.Mathlib.Omega.{arith}
+use mathlib.Core.Path.{refl}
 use lib.ListN.{length}
 use Rattle.value.specs.Rows.{rows_from}
-use Rattle.runs.proofs.Elements.{enums, marked_safe}
+use Rattle.area.proofs.Stepping.{same_then, step_then}
+use Rattle.runs.proofs.Elements.{enums}
 use Rattle.runs.proofs.enum_run.Goals as goal
-
-pub cell_run-requires : goal.cell_run-requires
-cell_run-requires c =
-    let a = c.args in record { safe = rw c.work-1.given (marked_safe a.round (length a.work.now) a.p a.work.now _ _ _ c.requires c.used-q.ensures); sane = (omega arith, omega arith) }
 
 pub returns : goal.returns
 returns c =
-    let a = c.args in
-    enums a.round (length a.work.now) a.p a.work.now a.sheet.now a.schema.now a.h (rows_from a.first a.n) _ _ c.named-name.ensures c.used-q.result c.used-q.new.work (length c.used-q.new.work) c.cell_run.result c.cell_run.new.work c.used-q.ensures c.work-1.given c.cell_run.ensures
+    let g = c.args in
+    let a = g.area.now in
+    let e = c.used.ensures in
+    let f = c.cell_run.ensures in
+    record {
+      same = same_then e.same f.same;
+      did = enums a.round (length a.bytes.now) a.progress a.bytes.now g.sheet.now g.schema.now g.h (rows_from g.rows.first g.rows.count) _ _ c.named-name.ensures _ _ (length a.bytes.now) _ _
+          e.did refl (step_then e.same f);
+    }

@@ -1,13 +1,13 @@
 -- `runs::stop_run` meets its contract. Assumes nothing.
-use mathlib.Core.Path.{ap}
 use lib.ListN.{length}
-use Rattle.numbers.specs.Words.{Bytes}
-use Rattle.area.specs.declared.Progress.{Progress}
-use Rattle.runs.specs.declared.Ran.TheVariants.{Dropped}
+use Rattle.area.specs.Fault.{fault_number}
 use Rattle.runs.proofs.Elements.{run_said}
+use Rattle.area.proofs.Stepping.{also_ok}
 use Rattle.runs.proofs.stop_run.Goals as goal
 
-pub returns : goal.returns
-returns c =
-    let a = c.args in
-    record { yields = run_said a.round (length a.work.now) a.p a.work.now a.d a.m a.kind a.detail c.say.result c.say.new.work c.requires.0 c.requires.1 c.say.ensures; work_after = ap (λ (x : Progress × Bytes). (Dropped x.0, x.1)) c.say.ensures.exact }
+pub returns-clause-yields : goal.returns-clause-yields
+returns-clause-yields c = λ F.
+    let g = c.args in
+    let t = g.at.now in
+    let a = g.area.now in
+    also_ok c.say.ensures (λ h. run_said a.round (length a.bytes.now) a.progress a.bytes.now t.structure t.member (fault_number g.fault) g.detail _ _ a.safe c.requires h F)

@@ -1,23 +1,41 @@
 -- `choices::choose::embed` meets its contract. Assumes nothing.
-use mathlib.Core.Path.{ap}
+use mathlib.Core.Path.{refl, ap}
 use mathlib.Core.Bool.{not}
-use mathlib.Core.Path.{refl}
 use lib.ListN.{length}
-use Rattle.choices.proofs.Embedding.{embeds_wide, embeds_fits, fell_safe, shift_room}
+use borrow.Author.Rules.{rules}
+use Rattle.area.proofs.Stepping.{same_then, change_then}
+use Rattle.choices.proofs.Embedding.{embeds_wide, embeds_fits, shift_room}
 use Rattle.choices.proofs.choose.embed.Goals as goal
-
-pub say-requires : goal.say-requires
-say-requires c =
-    fell_safe c.args.round (length c.args.work.now) c.args.base c.args.q c.args.work.now c.args.d c.args.m c.requires.safe.0 c.requires.safe.1 c.requires.size_bound.0 c.requires.size_bound.1 _ _ _ c.drop_run-s.ensures c.work-1.given
 
 pub returns-then-not-fits : goal.returns-then-not-fits
 returns-then-not-fits c =
-    embeds_wide c.args.round (length c.args.work.now) c.args.base c.args.q c.args.work.now c.args.d c.args.m c.requires.safe.0 c.requires.safe.1 c.requires.size_bound.0 c.requires.size_bound.1 _ _ _ _ _ _ c.fits.ensures (ap not c.if-not-fits.true) c.drop_run-s.ensures c.work-1.given c.say.ensures
+    let g = c.args in
+    let a = g.area.now in
+    let t = g.at.now in
+    let e = c.drop_to.ensures in
+    let f = c.say.ensures in
+    record {
+      same = same_then e.same f.same;
+      did = embeds_wide a.round (length a.bytes.now) g.base a.progress a.bytes.now t.structure t.member a.safe c.requires.open c.requires.size_bound.0 c.requires.size_bound.1 _ _ _ _ _ _
+          c.fits.ensures (ap not c.if-not-fits.true) e.did refl (change_then e.same f);
+    }
 
 pub shift-requires : goal.shift-requires
 shift-requires c =
-    shift_room c.args.round (length c.args.work.now) c.args.base c.args.q c.args.work.now c.args.d c.args.m c.requires.safe.0 c.requires.safe.1 c.requires.size_bound.0 c.requires.size_bound.1 _ _ c.fits.ensures (ap not c.if-not-fits.false) refl
+    let g = c.args in
+    let a = g.area.now in
+    let t = g.at.now in
+    rw c.place.ensures
+    (shift_room a.round (length a.bytes.now) g.base a.progress a.bytes.now t.structure t.member a.safe c.requires.open c.requires.size_bound.0 c.requires.size_bound.1 _ _
+    c.fits.ensures (ap not c.if-not-fits.false) refl)
 
 pub returns : goal.returns
 returns c =
-    embeds_fits c.args.round (length c.args.work.now) c.args.base c.args.q c.args.work.now c.args.d c.args.m c.requires.safe.0 c.requires.safe.1 c.requires.size_bound.0 c.requires.size_bound.1 _ _ c.fits.ensures (ap not c.if-not-fits.false) c.shift.ensures
+    let g = c.args in
+    let a = g.area.now in
+    let t = g.at.now in
+    record {
+      same = record { bytes = search rules; size = search rules; round = search rules };
+      did = embeds_fits a.round (length a.bytes.now) g.base a.progress a.bytes.now t.structure t.member a.safe c.requires.open c.requires.size_bound.0 c.requires.size_bound.1 _ _
+          c.fits.ensures (ap not c.if-not-fits.false) (rw c.place.ensures at c.shift.ensures);
+    }

@@ -1,61 +1,77 @@
 -- `members::slots::text_slot` meets its contract. Assumes nothing.
-use mathlib.Core.Path.{ap}
+use mathlib.Core.Path.{refl}
 use Prim.Native.Nat.{◌+◌}
-use native.Mathlib.Omega.{arith}
 use lib.ListN.{length}
-use borrow.Author.Tests.{eq-eqb, ne_eqb, leb-true}
-use Rattle.area.specs.Posts.{laid_is}
-use Rattle.members.proofs.Slotting.{paid_yes, paid_no, slot_room, counted_room, safe_paid, text_none, text_poor, text_full, text_pointer, text_counted}
+use borrow.Author.Tests.{eq-eqb, ne_eqb}
+use borrow.Author.Rules.{rules}
+use Rattle.std.proofs.lemmas.Result.{err_from_is_err_and}
+use Rattle.area.proofs.Stepping.{same_then, step_then}
+use Rattle.members.proofs.Slotting.{paid_yes, paid_no, text_none, text_poor, text_full, text_pointer, text_counted}
 use Rattle.members.proofs.slots.text_slot.Goals as goal
 
 pub returns-then-n-eq0 : goal.returns-then-n-eq0
 returns-then-n-eq0 c =
-    let a = c.args in
-    text_none a.round (length a.work.now) a.p a.work.now a.sub a.text.now a.at c.requires.safe c.if-n-eq0.true
+    let g = c.args in
+    let a = g.area.now in
+    record {
+      same = record { bytes = refl; size = refl; round = refl };
+      did = text_none a.round (length a.bytes.now) a.progress a.bytes.now g.sub g.text.now g.at a.safe c.if-n-eq0.true;
+    }
 
-pub lay_text-requires : goal.lay_text-requires
-lay_text-requires c =
-    let a = c.args in
-    let k = 16 + (length a.text.now + 1) in
-    let y = paid_yes a.round a.p k c.pay.result c.in-Done.q c.pay.ensures c.in-Done.is in
-    let l = leb-true (a.p.charge + k) a.round.cap y.0 in
-    record { safe = rw y.1 (safe_paid a.round (length a.work.now) a.p k c.requires.safe l); text_bound = rw y.1 (omega (arith, c.requires.safe)) }
+pub returns-in_err-pay : goal.returns-in_err-pay
+returns-in_err-pay c =
+    let g = c.args in
+    let a = g.area.now in
+    let x = err_from_is_err_and c.from_residual.result c.from_residual.ensures.1 in
+    let e = c.in_err-pay.ensures in
+    let y = paid_no a.round a.progress (16 + (length g.text.now + 1)) _ _ _ e.did.answer refl in
+    rw (x.1, x.2)
+    record {
+      same = e.same;
+      did = rw (y.1, y.2, e.did.area) (text_poor a.round (length a.bytes.now) a.progress a.bytes.now g.sub g.text.now g.at a.safe c.if-n-eq0.false y.0);
+    }
 
-pub put_counted-requires : goal.put_counted-requires
-put_counted-requires c =
-    let a = c.args in
-    omega (arith, c.work-1.given, counted_room a.round (length a.work.now) a.p a.sub a.at c.requires.safe c.requires.round_bound.1 c.if-sub-eq3.true)
-
-pub put_pointer-requires : goal.put_pointer-requires
-put_pointer-requires c =
-    let a = c.args in
-    omega (arith, c.work-1.given, slot_room a.round (length a.work.now) a.p a.sub a.at c.requires.safe c.requires.round_bound.1)
-
-pub returns-in-Refused : goal.returns-in-Refused
-returns-in-Refused c =
-    let a = c.args in
-    let y = paid_no a.round a.p (16 + (length a.text.now + 1)) c.pay.result c.in-Refused.k c.in-Refused.q c.pay.ensures c.in-Refused.is in
-    rw (y.1, y.2) (text_poor a.round (length a.work.now) a.p a.work.now a.sub a.text.now a.at c.requires.safe c.if-n-eq0.false y.0)
-
-pub returns-in-Refused-lay_text : goal.returns-in-Refused-lay_text
-returns-in-Refused-lay_text c =
-    let a = c.args in
-    let y = paid_yes a.round a.p (16 + (length a.text.now + 1)) c.pay.result c.in-Done.q c.pay.ensures c.in-Done.is in
-    text_full a.round (length a.work.now) a.p a.work.now a.sub a.text.now a.at c.requires.safe c.if-n-eq0.false y.0 c.in-Refused-lay_text.k c.in-Refused-lay_text.s c.lay_text.new.work
-    (rw (← y.1, ← ap laid_is c.in-Refused-lay_text.is) c.lay_text.ensures)
+pub returns-in_err-x : goal.returns-in_err-x
+returns-in_err-x c =
+    let g = c.args in
+    let a = g.area.now in
+    let x = err_from_is_err_and c.from_residual-in_err-x.result c.from_residual-in_err-x.ensures.1 in
+    let e = c.in_ok-pay.ensures in
+    let f = c.in_err-x.ensures in
+    let y = paid_yes a.round a.progress (16 + (length g.text.now + 1)) _ _ e.did.answer refl in
+    rw (x.1, x.2)
+    record {
+      same = same_then e.same f.same;
+      did = text_full a.round (length a.bytes.now) a.progress a.bytes.now g.sub g.text.now g.at a.safe c.if-n-eq0.false y.0 _ _ _
+          (rw (y.1, e.did.area) at (step_then e.same f));
+    }
 
 pub returns-then-sub-eq3 : goal.returns-then-sub-eq3
 returns-then-sub-eq3 c =
-    let a = c.args in
-    let y = paid_yes a.round a.p (16 + (length a.text.now + 1)) c.pay.result c.in-Done.q c.pay.ensures c.in-Done.is in
-    rw c.put_counted.ensures
-    (text_counted a.round (length a.work.now) a.p a.work.now a.sub a.text.now a.at c.requires.safe c.if-n-eq0.false y.0 c.in-At.x c.in-At.s c.lay_text.new.work
-    (eq-eqb a.sub 3 c.if-sub-eq3.true) (rw (← y.1, ← ap laid_is c.in-At.is) c.lay_text.ensures))
+    let g = c.args in
+    let a = g.area.now in
+    let e = c.in_ok-pay.ensures in
+    let f = c.in_ok-x.ensures in
+    let h = same_then e.same f.same in
+    let y = paid_yes a.round a.progress (16 + (length g.text.now + 1)) _ _ e.did.answer refl in
+    record {
+      same = record { bytes = h.bytes; size = search (rules, h.size); round = h.round };
+      did = rw c.put_counted.ensures
+          (text_counted a.round (length a.bytes.now) a.progress a.bytes.now g.sub g.text.now g.at a.safe c.if-n-eq0.false y.0 _ _ _
+          (eq-eqb g.sub 3 c.if-sub-eq3.true) (rw (y.1, e.did.area) at (step_then e.same f)));
+    }
 
 pub returns-else-sub-eq3 : goal.returns-else-sub-eq3
 returns-else-sub-eq3 c =
-    let a = c.args in
-    let y = paid_yes a.round a.p (16 + (length a.text.now + 1)) c.pay.result c.in-Done.q c.pay.ensures c.in-Done.is in
-    rw c.put_pointer.ensures
-    (text_pointer a.round (length a.work.now) a.p a.work.now a.sub a.text.now a.at c.requires.safe c.if-n-eq0.false y.0 c.in-At.x c.in-At.s c.lay_text.new.work
-    (ne_eqb a.sub 3 c.if-sub-eq3.false) (rw (← y.1, ← ap laid_is c.in-At.is) c.lay_text.ensures))
+    let g = c.args in
+    let a = g.area.now in
+    let e = c.in_ok-pay.ensures in
+    let f = c.in_ok-x.ensures in
+    let h = same_then e.same f.same in
+    let y = paid_yes a.round a.progress (16 + (length g.text.now + 1)) _ _ e.did.answer refl in
+    record {
+      same = record { bytes = h.bytes; size = search (rules, h.size); round = h.round };
+      did = rw c.put_pointer.ensures
+          (text_pointer a.round (length a.bytes.now) a.progress a.bytes.now g.sub g.text.now g.at a.safe c.if-n-eq0.false y.0 _ _ _
+          (ne_eqb g.sub 3 c.if-sub-eq3.false) (rw (y.1, e.did.area) at (step_then e.same f)));
+    }
