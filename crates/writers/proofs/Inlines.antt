@@ -22,15 +22,13 @@ use Rattle.layout.specs.Write.{inline_member}
 use Rattle.area.specs.declared.Round.{Round}
 use Rattle.area.specs.declared.Progress.{Progress}
 use Rattle.area.specs.Area.{stack_at, env_of, with_top}
-use Rattle.area.specs.Posts.{Safe, Open, Notes, Meets}
+use Rattle.area.specs.Posts.{Safe, Open, Notes, Meets, Ans, gives, refuses}
 use Rattle.area.proofs.Over.{length_over}
 use Rattle.area.proofs.Reps.{rep_shift}
 use Rattle.cells.specs.declared.defs.Def.{Def}
 use Rattle.cells.specs.Names.{def_of, member_of}
-use Rattle.members.specs.declared.Wrote.{Wrote}
-use Rattle.members.specs.declared.Wrote.TheVariants.{Done, Refused}
 use Rattle.members.specs.Names.{looked_is}
-use Rattle.members.specs.Posts.{remark_on, Buffer, Went, Fills, wrote_is}
+use Rattle.members.specs.Posts.{remark_on, Buffer, Went, Fills}
 use Rattle.members.proofs.Filling.{def_size, need_yes, fills_as, said, too_long}
 use Rattle.choices.proofs.Meeting.{refused_on}
 use Rattle.choices.proofs.Choosing.{looked_name}
@@ -71,9 +69,9 @@ module _ (R : Round) (n : ℕ) (p : Progress) (w : Bytes) (T F : Bytes) (left : 
   -- there is no definition
   pub inline_missing : (r : Option Def) (q : Progress) (w' : Bytes) → Safe R n p → Open p
       → ((S : Schema) → schema_of F ≡ ok S → (winning S).struct m.reference ≡ looked_is F r) → r ≡ None
-      → Notes R n p w (remark_on d m 4 m.reference) q w' → Fills (Of F) R n p w d.size inlined (Done q) w'
+      → Notes R n p w (remark_on d m 4 m.reference) q w' → Fills (Of F) R n p w d.size inlined (gives (tt {0}) q) w'
   inline_missing r q w' h o k e t =
-      fills_as R n p w (Of F) (Of F) d.size inlined (λ S buf. leaves (def_of F d) (member_of m) 4 m.reference buf) (Done q) w'
+      fills_as R n p w (Of F) (Of F) d.size inlined (λ S buf. leaves (def_of F d) (member_of m) 4 m.reference buf) (gives (tt {0}) q) w'
       (λ S u. (u, λ buf s. ap (λ (a : M Bytes). a s) (inline_none (env_of T S R) (deeper T R left S) (def_of F d) (member_of m) v buf (looked_none F m.reference r k e S u))))
       (said R n p w (Of F) d.size F d m 4 m.reference q w' h o t)
 
@@ -87,9 +85,9 @@ module _ (R : Round) (n : ℕ) (p : Progress) (w : Bytes) (T F : Bytes) (left : 
   -- it does not fit
   pub inline_long : (r : Option Def) (i : Def) (b : Bool) (q : Progress) (w' : Bytes) → Safe R n p → Open p
       → ((S : Schema) → schema_of F ≡ ok S → (winning S).struct m.reference ≡ looked_is F r) → r ≡ Some i → b ≡ leb (m.offset + i.size) d.size → b ≡ false
-      → Notes R n p w (remark_on d m 1 d.size) q w' → Fills (Of F) R n p w d.size inlined (Done q) w'
+      → Notes R n p w (remark_on d m 1 d.size) q w' → Fills (Of F) R n p w d.size inlined (gives (tt {0}) q) w'
   inline_long r i b q w' h o k e f g t =
-      fills_as R n p w (Of F) (Of F) d.size inlined (λ S buf. need (def_of F d) (member_of m) i.size buf (put i S buf)) (Done q) w'
+      fills_as R n p w (Of F) (Of F) d.size inlined (λ S buf. need (def_of F d) (member_of m) i.size buf (put i S buf)) (gives (tt {0}) q) w'
       (λ S u. (u, known_as i (looked_at_law F m.reference r i k e) S u))
       (too_long R n p w (Of F) F d m i.size (put i) q w' h o (sym f ∙ g) t)
 
@@ -102,12 +100,12 @@ module _ (R : Round) (n : ℕ) (p : Progress) (w : Bytes) (T F : Bytes) (left : 
       rw g (known_as i k S u buf s ∙ ap (λ (a : M Bytes). a s) (need_yes (def_of F d) (member_of m) i.size buf (put i S buf) (rw (def_size F d) f)))
 
   -- a refusal
-  pub inline_refused : (r : Option Def) (i : Def) (b : Bool) (fs : Fields) (x : Wrote) (k : ℕ) (t : Progress) (w' : Bytes)
+  pub inline_refused : (r : Option Def) (i : Def) (b : Bool) (fs : Fields) (x : Ans (Unit {0})) (k : ℕ) (t : Progress) (w' : Bytes)
       → ((S : Schema) → schema_of F ≡ ok S → (winning S).struct m.reference ≡ looked_is F r) → r ≡ Some i → b ≡ leb (m.offset + i.size) d.size → b ≡ true
-      → fs ≡ fields_of T v → Pushes (Named F i) R n p w i.size (λ S. deeper T R left S (def_of F i) fs) x w' → x ≡ Refused k t
-      → Fills (Of F) R n p w d.size inlined (Refused k t) w'
+      → fs ≡ fields_of T v → Pushes (Named F i) R n p w i.size (λ S. deeper T R left S (def_of F i) fs) x w' → x ≡ refuses k t
+      → Fills (Of F) R n p w d.size inlined (refuses k t) w'
   inline_refused r i b fs x k t w' l e f g j a z =
-      let c : Pushes (Named F i) R n p w i.size (λ S. deeper T R left S (def_of F i) fs) (Refused k t) w' = rw (← z) a in
+      let c : Pushes (Named F i) R n p w i.size (λ S. deeper T R left S (def_of F i) fs) (refuses k t) w' = rw (← z) a in
       let win : (S : Schema) → schema_of F ≡ ok S → (winning S).struct m.reference ≡ Some (def_of F i) = looked_at_law F m.reference r i l e in
       record {
         grew = c.grew;
@@ -117,7 +115,7 @@ module _ (R : Round) (n : ℕ) (p : Progress) (w : Bytes) (T F : Bytes) (left : 
       }
 
   -- the numbers after the structure went into its parent
-  inline_went : (size : ℕ) (t : Progress) → Safe R n p → Safe R n t → Started p size t → Went R n p 1 (Done (with_top t p.top))
+  inline_went : (size : ℕ) (t : Progress) → Safe R n p → Safe R n t → Started p size t → Went R n p 1 (gives (tt {0}) (with_top t p.top))
   inline_went size t h g s = (
     record {
       small = g.small;
@@ -140,8 +138,8 @@ module _ (R : Round) (n : ℕ) (p : Progress) (w : Bytes) (T F : Bytes) (left : 
   -- the bytes on top of the stack moved into the parent below them
   moved : (i : Def) (t : Progress) (w1 : Bytes) (to : ℕ) → Safe R n t → p.top + i.size ≡ t.top → m.offset + i.size ≤ d.size → d.size ≤ p.top
       → to ≡ p.top - d.size + m.offset → (S : Schema) (σ buf : Bytes) → length buf ≡ d.size → p.top ≡ stack_at R + length (σ ++ buf)
-      → (o : Out Bytes) → Meets S R n (λ b. (σ ++ buf) ++ b) (λ b x. length b ≡ i.size) o (wrote_is (Done t)) w1
-      → Meets S R n (λ b. σ ++ b) (λ b x. length b ≡ d.size) (after o (λ bs. ret (over buf m.offset bs))) (wrote_is (Done (with_top t p.top)))
+      → (o : Out Bytes) → Meets S R n (λ b. (σ ++ buf) ++ b) (λ b x. length b ≡ i.size) o (gives (tt {0}) t) w1
+      → Meets S R n (λ b. σ ++ b) (λ b x. length b ≡ d.size) (after o (λ bs. ret (over buf m.offset bs))) (gives (tt {0}) (with_top t p.top))
       (over (over w1 to (take i.size (drop p.top w1))) p.top (zeros i.size))
   unfolding after ret
   moved i t w1 to g e f dn te S σ buf l a (done b s) h =
@@ -152,13 +150,13 @@ module _ (R : Round) (n : ℕ) (p : Progress) (w : Bytes) (T F : Bytes) (left : 
   moved i t w1 to g e f dn te S σ buf l a (stop k es) h = absurd h
 
   -- its bytes are in the parent
-  pub inline_done : (r : Option Def) (i : Def) (b : Bool) (fs : Fields) (x : Wrote) (t : Progress) (w1 w2 : Bytes) → Safe R n p → Buffer R p d.size
+  pub inline_done : (r : Option Def) (i : Def) (b : Bool) (fs : Fields) (x : Ans (Unit {0})) (t : Progress) (w1 w2 : Bytes) → Safe R n p → Buffer R p d.size
       → ((S : Schema) → schema_of F ≡ ok S → (winning S).struct m.reference ≡ looked_is F r) → r ≡ Some i → b ≡ leb (m.offset + i.size) d.size → b ≡ true
-      → fs ≡ fields_of T v → Pushes (Named F i) R n p w i.size (λ S. deeper T R left S (def_of F i) fs) x w1 → x ≡ Done t
+      → fs ≡ fields_of T v → Pushes (Named F i) R n p w i.size (λ S. deeper T R left S (def_of F i) fs) x w1 → x ≡ gives (tt {0}) t
       → w2 ≡ over (over w1 (p.top - d.size + m.offset) (take i.size (drop p.top w1))) p.top (zeros i.size)
-      → Fills (Of F) R n p w d.size inlined (Done (with_top t p.top)) w2
+      → Fills (Of F) R n p w d.size inlined (gives (tt {0}) (with_top t p.top)) w2
   inline_done r i b fs x t w1 w2 h bu l e f g j a z q =
-      let c : Pushes (Named F i) R n p w i.size (λ S. deeper T R left S (def_of F i) fs) (Done t) w1 = rw (← z) a in
+      let c : Pushes (Named F i) R n p w i.size (λ S. deeper T R left S (def_of F i) fs) (gives (tt {0}) t) w1 = rw (← z) a in
       let win : (S : Schema) → schema_of F ≡ ok S → (winning S).struct m.reference ≡ Some (def_of F i) = looked_at_law F m.reference r i l e in
       let fit : m.offset + i.size ≤ d.size = leb-true (m.offset + i.size) d.size (sym f ∙ g) in
       record {
@@ -167,13 +165,3 @@ module _ (R : Round) (n : ℕ) (p : Progress) (w : Bytes) (T F : Bytes) (left : 
             (moved i t w1 (p.top - d.size + m.offset) c.grew.0 (sym c.grew.1.grown.top) fit (omega (arith, bu.low)) refl S σ buf y k.top
             (deeper T R left S (def_of F i) fs s) (c.says S (looked_named F S m.reference i u (win S u)) s (σ ++ buf) k));
       }
-
--- the numbers after a structure was pushed, by the answer
-pub pushed_done : (R : Round) (n : ℕ) (p : Progress) (size : ℕ) (x : Wrote) (t : Progress) → Pushed R n p size x → x ≡ Done t → Safe R n t × Started p size t
-pushed_done R n p size x t h e = subst (Pushed R n p size) e h
-
--- .. its bytes are within the area
-pub pushed_within : (R : Round) (n : ℕ) (p : Progress) (size : ℕ) (x : Wrote) (t : Progress) → Pushed R n p size x → x ≡ Done t → p.top + size ≤ n
-pushed_within R n p size x t h e =
-    let g : Safe R n t × Started p size t = pushed_done R n p size x t h e in
-    omega (arith, g.0, g.1.grown.top)

@@ -1,4 +1,5 @@
 -- Members and runs by their kind. No line here names a place of the code. Assumes nothing.
+use Rattle.area.specs.Posts.{Ans}
 use Rattle.std.specs.Prelude.{Option, Some, None}
 use mathlib.Core.Path.{◌≡◌, refl, sym, ap, ◌∙◌}
 use mathlib.Core.Bool.{Bool, true, false, cond, ◌||◌}
@@ -28,11 +29,9 @@ use Rattle.area.specs.Area.{env_of}
 use Rattle.cells.specs.declared.defs.Def.{Def}
 use Rattle.cells.specs.Names.{def_of, member_of}
 use Rattle.cells.specs.Plans.{plain_member}
-use Rattle.members.specs.declared.Wrote.{Wrote}
 use Rattle.members.specs.Names.{looked_is}
 use Rattle.members.specs.Posts.{any_schema, Fills}
 use Rattle.members.proofs.Filling.{def_name, fills_as}
-use Rattle.runs.specs.declared.Ran.{Ran}
 use Rattle.runs.specs.Posts.{Yields, plain_run}
 use Rattle.runs.proofs.Elements.{yields_as}
 use Rattle.writers.specs.Posts.{Of, Named, deeper, struct_run}
@@ -188,7 +187,7 @@ module _ (R : Round) (n : ℕ) (p : Progress) (w : Bytes) (T F : Bytes) (left : 
   as_member S buf = member (env_of T S R) (deeper T R left S) (def_of F d) (member_of m) (kind_of m.kind) v buf
 
   -- a structure member
-  pub structure_wrong : (u : Row) (b : Bool) (r : Wrote) (w' : Bytes) → u ≡ value_row T v → ((E : Env) → b ≡ is_struct_value E u) → b ≡ false
+  pub structure_wrong : (u : Row) (b : Bool) (r : Ans (Unit {0})) (w' : Bytes) → u ≡ value_row T v → ((E : Env) → b ≡ is_struct_value E u) → b ≡ false
       → ((F : Bytes) → Fills any_schema R n p w d.size (λ S buf. members.wrong (def_of F d) (member_of m) v buf) r w') → Fills (Of F) R n p w d.size as_struct r w'
   structure_wrong u b r w' z h e a =
       fills_as R n p w (Of F) any_schema d.size as_struct (λ S buf. members.wrong (def_of F d) (member_of m) v buf) r w'
@@ -198,7 +197,7 @@ module _ (R : Round) (n : ℕ) (p : Progress) (w : Bytes) (T F : Bytes) (left : 
             (struct_wrong (env_of T S R) (deeper T R left S) (def_of F d) (member_of m) v buf (rw (← z) (sym (h (env_of T S R)) ∙ e))),
       )) (a F)
 
-  pub structure_inline : (u : Row) (b : Bool) (r : Wrote) (w' : Bytes) → u ≡ value_row T v → ((E : Env) → b ≡ is_struct_value E u) → b ≡ true → m.subtype ≡ 0
+  pub structure_inline : (u : Row) (b : Bool) (r : Ans (Unit {0})) (w' : Bytes) → u ≡ value_row T v → ((E : Env) → b ≡ is_struct_value E u) → b ≡ true → m.subtype ≡ 0
       → Fills (Of F) R n p w d.size (λ S buf. inline_member (env_of T S R) (deeper T R left S) (def_of F d) (member_of m) (value_row T v) buf) r w'
       → Fills (Of F) R n p w d.size as_struct r w'
   structure_inline u b r w' z h e f a =
@@ -209,7 +208,7 @@ module _ (R : Round) (n : ℕ) (p : Progress) (w : Bytes) (T F : Bytes) (left : 
             (struct_inline (env_of T S R) (deeper T R left S) (def_of F d) (member_of m) v buf (rw (← z) (sym (h (env_of T S R)) ∙ e)) (eq-eqb m.subtype 0 f)),
       )) a
 
-  pub structure_pointed : (u : Row) (b : Bool) (r : Wrote) (w' : Bytes) → u ≡ value_row T v → ((E : Env) → b ≡ is_struct_value E u) → b ≡ true → (m.subtype ≡ 0 → ⊥)
+  pub structure_pointed : (u : Row) (b : Bool) (r : Ans (Unit {0})) (w' : Bytes) → u ≡ value_row T v → ((E : Env) → b ≡ is_struct_value E u) → b ≡ true → (m.subtype ≡ 0 → ⊥)
       → Fills (Of F) R n p w d.size (λ S buf. pointed_member (env_of T S R) (deeper T R left S) (def_of F d) (member_of m) (value_row T v) buf) r w'
       → Fills (Of F) R n p w d.size as_struct r w'
   structure_pointed u b r w' z h e f a =
@@ -221,31 +220,31 @@ module _ (R : Round) (n : ℕ) (p : Progress) (w : Bytes) (T F : Bytes) (left : 
       )) a
 
   -- a member of a kind
-  of_kind : (k : Kinds.Kind) (g : Schema → Bytes → M Bytes) (r : Wrote) (w' : Bytes) → kind_of m.kind ≡ k
+  of_kind : (k : Kinds.Kind) (g : Schema → Bytes → M Bytes) (r : Ans (Unit {0})) (w' : Bytes) → kind_of m.kind ≡ k
       → ((S : Schema) (buf : Bytes) → member (env_of T S R) (deeper T R left S) (def_of F d) (member_of m) k v buf ≡ g S buf)
       → Fills (Of F) R n p w d.size g r w' → Fills (Of F) R n p w d.size as_member r w'
   of_kind k g r w' e h a =
       let eq : (S : Schema) (buf : Bytes) → as_member S buf ≡ g S buf = λ S buf. rw e (h S buf) in
       fills_as R n p w (Of F) (Of F) d.size as_member g r w' (λ S u. (u, λ buf s. ap (λ (a : M Bytes). a s) (eq S buf))) a
 
-  pub member_as_structure : (r : Wrote) (w' : Bytes) → m.kind ≡ 12
+  pub member_as_structure : (r : Ans (Unit {0})) (w' : Bytes) → m.kind ≡ 12
       → Fills (Of F) R n p w d.size as_struct r w' → Fills (Of F) R n p w d.size as_member r w'
   member_as_structure r w' e a =
       of_kind Kinds.structure as_struct r w' (kind_structure m.kind e) (λ S buf. member_structure (env_of T S R) (deeper T R left S) (def_of F d) (member_of m) v buf) a
 
-  pub member_as_array : (r : Wrote) (w' : Bytes) → m.kind ≡ 13
+  pub member_as_array : (r : Ans (Unit {0})) (w' : Bytes) → m.kind ≡ 13
       → Fills (Of F) R n p w d.size (λ S buf. array_member (env_of T S R) (deeper T R left S) (def_of F d) (member_of m) v buf) r w' → Fills (Of F) R n p w d.size as_member r w'
   member_as_array r w' e a =
       of_kind Kinds.array (λ S buf. array_member (env_of T S R) (deeper T R left S) (def_of F d) (member_of m) v buf) r w' (kind_array m.kind e)
       (λ S buf. member_array (env_of T S R) (deeper T R left S) (def_of F d) (member_of m) v buf) a
 
-  pub member_as_map : (r : Wrote) (w' : Bytes) → m.kind ≡ 16
+  pub member_as_map : (r : Ans (Unit {0})) (w' : Bytes) → m.kind ≡ 16
       → Fills (Of F) R n p w d.size (λ S buf. map_member (env_of T S R) (deeper T R left S) (def_of F d) (member_of m) v buf) r w' → Fills (Of F) R n p w d.size as_member r w'
   member_as_map r w' e a =
       of_kind Kinds.map (λ S buf. map_member (env_of T S R) (deeper T R left S) (def_of F d) (member_of m) v buf) r w' (kind_map m.kind e)
       (λ S buf. member_map (env_of T S R) (deeper T R left S) (def_of F d) (member_of m) v buf) a
 
-  pub member_as_plain : (r : Wrote) (w' : Bytes) → (m.kind ≡ 12 → ⊥) → (m.kind ≡ 13 → ⊥) → (m.kind ≡ 16 → ⊥)
+  pub member_as_plain : (r : Ans (Unit {0})) (w' : Bytes) → (m.kind ≡ 12 → ⊥) → (m.kind ≡ 13 → ⊥) → (m.kind ≡ 16 → ⊥)
       → Fills (Of F) R n p w d.size (λ S buf. plain_member (env_of T S R) (def_of F d) (member_of m) (kind_of m.kind) v buf) r w' → Fills (Of F) R n p w d.size as_member r w'
   member_as_plain r w' a b c h =
       of_kind (kind_of m.kind) (λ S buf. plain_member (env_of T S R) (def_of F d) (member_of m) (kind_of m.kind) v buf) r w' refl
@@ -255,13 +254,13 @@ module _ (R : Round) (n : ℕ) (p : Progress) (w : Bytes) (T F : Bytes) (left : 
   abbrev as_run : Schema → M (Option Run)
   as_run S = element_run (env_of T S R) (deeper T R left S) (def_of F d) (member_of m) (member_of x) (kind_of x.kind) (rows_from first count)
 
-  pub run_plain : (r : Ran) (w' : Bytes) → (x.kind ≡ 12 → ⊥)
+  pub run_plain : (r : Ans (Option ℕ)) (w' : Bytes) → (x.kind ≡ 12 → ⊥)
       → Yields (Of F) R n p w 1 (λ S. plain_run (env_of T S R) (def_of F d) (member_of m) (member_of x) (kind_of x.kind) (rows_from first count)) r w' → Yields (Of F) R n p w 1 as_run r w'
   run_plain r w' e a =
       yields_as R n p w (Of F) (Of F) 1 1 as_run (λ S. plain_run (env_of T S R) (def_of F d) (member_of m) (member_of x) (kind_of x.kind) (rows_from first count)) r w' (omega arith)
       (λ S k. (k, run_leaf (env_of T S R) (deeper T R left S) (def_of F d) (member_of m) (member_of x) (kind_of x.kind) (rows_from first count) (kind_leaf x.kind e))) a
 
-  pub run_pointers : (r : Ran) (w' : Bytes) → x.kind ≡ 12 → x.subtype ≡ 3
+  pub run_pointers : (r : Ans (Option ℕ)) (w' : Bytes) → x.kind ≡ 12 → x.subtype ≡ 3
       → Yields (Of F) R n p w 0 (λ S. runs.run (env_of T S R) 8 12 (runs.pointer_element (env_of T S R) (deeper T R left S) (def_of F d) (member_of m) x.reference) (rows_from first count)) r w'
       → Yields (Of F) R n p w 1 as_run r w'
   run_pointers r w' e f a =
@@ -269,7 +268,7 @@ module _ (R : Round) (n : ℕ) (p : Progress) (w : Bytes) (T F : Bytes) (left : 
       (λ S. runs.run (env_of T S R) 8 12 (runs.pointer_element (env_of T S R) (deeper T R left S) (def_of F d) (member_of m) x.reference) (rows_from first count)) r w' (omega arith)
       (λ S k. (k, rw (kind_structure x.kind e) (run_pointed (env_of T S R) (deeper T R left S) (def_of F d) (member_of m) (member_of x) (rows_from first count) (eq-eqb x.subtype 3 f)))) a
 
-  pub run_missing : (l : Option Def) (r : Ran) (w' : Bytes) → x.kind ≡ 12 → (x.subtype ≡ 3 → ⊥) → ((S : Schema) → schema_of F ≡ ok S → (winning S).struct x.reference ≡ looked_is F l) → l ≡ None
+  pub run_missing : (l : Option Def) (r : Ans (Option ℕ)) (w' : Bytes) → x.kind ≡ 12 → (x.subtype ≡ 3 → ⊥) → ((S : Schema) → schema_of F ≡ ok S → (winning S).struct x.reference ≡ looked_is F l) → l ≡ None
       → ((F : Bytes) → Yields any_schema R n p w 1 (λ S. runs.stops (def_of F d) (member_of m) 8 x.reference) r w') → Yields (Of F) R n p w 1 as_run r w'
   run_missing l r w' e f h g a =
       yields_as R n p w (Of F) any_schema 1 1 as_run (λ S. runs.stops (def_of F d) (member_of m) 8 x.reference) r w' (omega arith)
@@ -279,7 +278,7 @@ module _ (R : Round) (n : ℕ) (p : Progress) (w : Bytes) (T F : Bytes) (left : 
             (run_none (env_of T S R) (deeper T R left S) (def_of F d) (member_of m) (member_of x) (rows_from first count) (ne_eqb x.subtype 3 f) (looked_none F x.reference l h g S k)),
       )) (a F)
 
-  pub run_structs : (l : Option Def) (i : Def) (r : Ran) (w' : Bytes) → x.kind ≡ 12 → (x.subtype ≡ 3 → ⊥) → ((S : Schema) → schema_of F ≡ ok S → (winning S).struct x.reference ≡ looked_is F l) → l ≡ Some i
+  pub run_structs : (l : Option Def) (i : Def) (r : Ans (Option ℕ)) (w' : Bytes) → x.kind ≡ 12 → (x.subtype ≡ 3 → ⊥) → ((S : Schema) → schema_of F ≡ ok S → (winning S).struct x.reference ≡ looked_is F l) → l ≡ Some i
       → Yields (Named F i) R n p w 0 (λ S. struct_run (env_of T S R) (deeper T R left S) (def_of F d) (member_of m) (def_of F i) i.name first count false) r w' → Yields (Of F) R n p w 1 as_run r w'
   run_structs l i r w' e f h g a =
       yields_as R n p w (Of F) (Named F i) 0 1 as_run (λ S. struct_run (env_of T S R) (deeper T R left S) (def_of F d) (member_of m) (def_of F i) i.name first count false) r w' (omega arith)

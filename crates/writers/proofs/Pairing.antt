@@ -3,7 +3,7 @@ use Rattle.std.specs.Prelude.{Option, Some, None}
 use mathlib.Core.Path.{◌≡◌, refl, sym, ap, subst, ◌∙◌}
 use mathlib.Core.Bool.{Bool, true, false, not, ◌&&◌, ◌||◌}
 use mathlib.Core.List.{List, [], ◌∷◌, ◌++◌}
-use Prim.Native.Nat.{ℕ, zero, suc, ◌+◌, ◌-◌, ◌*◌, ◌≤◌, ◌<◌}
+use Prim.Native.Nat.{ℕ, ◌+◌, ◌-◌, ◌*◌, ◌≤◌, ◌<◌}
 use native.Mathlib.Omega.{arith}
 use borrow.Author.Tests.{not-true, not-false, eq-eqb, ne_eqb}
 use lib.Dec.{leb, eqb}
@@ -21,19 +21,15 @@ use Rattle.layout.specs.Runs.{Run, run}
 use Rattle.layout.specs.Write.{laid_run, map_of, map_member, pairs_of, pair_element}
 use Rattle.area.specs.declared.Round.{Round}
 use Rattle.area.specs.declared.Progress.{Progress}
-use Rattle.area.specs.Area.{items_at, stack_at, env_of, Rep}
-use Rattle.area.specs.Posts.{Safe, Open, Notes}
+use Rattle.area.specs.Area.{stack_at, env_of, Rep}
+use Rattle.area.specs.Posts.{Safe, Open, Notes, Ans, gives, refuses}
 use Rattle.area.proofs.Over.{length_over, words_one}
 use Rattle.area.proofs.Reps.{rep_put}
 use Rattle.cells.specs.declared.defs.Def.{Def}
 use Rattle.cells.specs.Names.{def_of, member_of}
-use Rattle.members.specs.declared.Wrote.{Wrote}
-use Rattle.members.specs.declared.Wrote.TheVariants.{Done, Refused}
 use Rattle.members.specs.Names.{looked_is}
-use Rattle.members.specs.Posts.{Fills, Buffer, remark_on, any_schema}
+use Rattle.members.specs.Posts.{Fills, remark_on, any_schema}
 use Rattle.members.proofs.Filling.{stays, said}
-use Rattle.runs.specs.declared.Ran.{Ran}
-use Rattle.runs.specs.declared.Ran.TheVariants as Rn
 use Rattle.runs.specs.Posts.{Yields}
 use Rattle.choices.specs.Sources.{pair_count}
 use Rattle.choices.specs.Posts.{Lodges}
@@ -44,7 +40,7 @@ use Rattle.choices.proofs.Embedding.{fit_within, need_fits, need_leaves}
 use Rattle.writers.specs.Posts.{Of, Named, deeper, struct_run}
 use Rattle.writers.proofs.Inlines.{looked_named}
 use Rattle.writers.proofs.Children.{length_pairs, pairs_empty, pairs_some, children_pairs, map_other, map_or_null}
-use Rattle.writers.proofs.Filled.{fills_same, with_run, run_refused, run_dropped, run_lodged, lodge_room}
+use Rattle.writers.proofs.Filled.{fills_same, with_run, run_refused, run_dropped, run_lodged}
 
 -- what an empty map holds
 abbrev pub mark : ℕ
@@ -95,24 +91,17 @@ module _ (T F : Bytes) (R : Round) (left : ℕ) (p : Progress) (w : Bytes) (d : 
           (λ y. bind (add_item y.block y.bytes) λ q. ret (put_counted buf (m.offset + 8) q (length (pairs_of (rows_from first (2 * n)))))) s) (sym (name_is S o))
           ∙ ap (λ (k : ℕ). with_run (run' i S) buf (λ y. bind (add_item y.block y.bytes) λ q. ret (put_counted buf (m.offset + 8) q k)) s) (length_pairs first n)
 
-      module _ (r : Ran) (w' : Bytes) (g : Yields (Named F i) R (length w) p w 0 (run' i) r w') where
+      module _ (r : Ans (Option ℕ)) (w' : Bytes) (g : Yields (Named F i) R (length w) p w 0 (run' i) r w') where
         -- their run was refused
-        pub pairs_refused : (k : ℕ) (q : Progress) → r ≡ Rn.Refused k q → Fills (Of F) R (length w) p w d.size (pairs first n) (Refused k q) w'
+        pub pairs_refused : (k : ℕ) (q : Progress) → r ≡ refuses k q → Fills (Of F) R (length w) p w d.size (pairs first n) (refuses k q) w'
         pairs_refused k q j = fills_same known (λ S o buf s. there_is S buf s o) (run_refused (Named F i) R (length w) p w 0 d.size (run' i) filed r w' g k q j)
 
         -- .. dropped
-        pub pairs_dropped : (q : Progress) → r ≡ Rn.Dropped q → Fills (Of F) R (length w) p w d.size (pairs first n) (Done q) w'
+        pub pairs_dropped : (q : Progress) → r ≡ gives None q → Fills (Of F) R (length w) p w d.size (pairs first n) (gives (tt {0}) q) w'
         pairs_dropped q j = fills_same known (λ S o buf s. there_is S buf s o) (run_dropped (Named F i) R (length w) p w 0 d.size (run' i) filed r w' g q j (omega arith))
 
-        -- there is room to file it
-        pub pairs_room : (block k : ℕ) (q : Progress) → r ≡ Rn.Kept block q → k ≡ length w
-            → Safe R k q × ((q.end + (16 + (q.top - p.top)) ≤ items_at R + q.charge) × (stack_at R ≤ p.top - d.size + m.offset + 8) × (p.top - d.size + m.offset + 8 + 12 + (q.top - p.top) ≤ q.top))
-        pairs_room block k q j l =
-            let v = lodge_room (Named F i) R (length w) p w 0 d.size (run' i) filed r w' g block (m.offset + 8) k q safe j (omega arith) low l in
-            (v.0, (v.1.0, omega (arith, v.1.1), omega (arith, v.1.2)))
-
         -- .. filed
-        pub pairs_kept : (block : ℕ) (q : Progress) (u : Wrote) (w'' : Bytes) → r ≡ Rn.Kept block q → length w' ≡ length w
+        pub pairs_kept : (block : ℕ) (q : Progress) (u : Ans (Unit {0})) (w'' : Bytes) → r ≡ gives (Some block) q → length w' ≡ length w
             → Lodges R (length w') q w' block (q.top - p.top) (p.top - d.size + m.offset + 8) n u w'' → Fills (Of F) R (length w) p w d.size (pairs first n) u w''
         pairs_kept block q u w'' j l x =
             let a : p.top - d.size + m.offset + 8 ≡ p.top - d.size + (m.offset + 8) = omega arith in
@@ -121,7 +110,7 @@ module _ (T F : Bytes) (R : Round) (left : ℕ) (p : Progress) (w : Bytes) (d : 
             (subst (λ (at : ℕ). Lodges R (length w') q w' block (q.top - p.top) at n u w'') a x))
 
     -- remark 7
-    pub pairs_missing : (q : Progress) (w' : Bytes) → found ≡ None → Notes R (length w) p w (remark_on d m 7 h) q w' → Fills (Of F) R (length w) p w d.size (pairs first n) (Done q) w'
+    pub pairs_missing : (q : Progress) (w' : Bytes) → found ≡ None → Notes R (length w) p w (remark_on d m 7 h) q w' → Fills (Of F) R (length w) p w d.size (pairs first n) (gives (tt {0}) q) w'
     pairs_missing q w' e x = fills_same (λ S o. o) (λ S o buf s. missing_is S buf s o e) (said R (length w) p w (Of F) d.size F d m 7 h q w' safe more x)
 
   -- ---- a map
@@ -134,7 +123,7 @@ module _ (T F : Bytes) (R : Round) (left : ℕ) (p : Progress) (w : Bytes) (d : 
     subtype_is S buf s e = if_false (eqb m.subtype 1) _ (leaves (def_of F d) (member_of m) 6 m.subtype buf) s (ne_eqb m.subtype 1 e)
 
     -- remark 6
-    pub map_subtype : (q : Progress) (w' : Bytes) → (m.subtype ≡ 1 → ⊥) → Notes R (length w) p w (remark_on d m 6 m.subtype) q w' → Fills (Of F) R (length w) p w d.size map (Done q) w'
+    pub map_subtype : (q : Progress) (w' : Bytes) → (m.subtype ≡ 1 → ⊥) → Notes R (length w) p w (remark_on d m 6 m.subtype) q w' → Fills (Of F) R (length w) p w d.size map (gives (tt {0}) q) w'
     map_subtype q w' e x = fills_same (λ S o. o) (λ S o buf s. subtype_is S buf s e) (said R (length w) p w (Of F) d.size F d m 6 m.subtype q w' safe more x)
 
     module _ (one : m.subtype ≡ 1) (fit : Bool) (e : fit ≡ leb (m.offset + 24) d.size) where
@@ -152,26 +141,10 @@ module _ (T F : Bytes) (R : Round) (left : ℕ) (p : Progress) (w : Bytes) (d : 
       needs_is S buf s = if_true (eqb m.subtype 1) _ (leaves (def_of F d) (member_of m) 6 m.subtype buf) s (eq-eqb m.subtype 1 one)
 
       -- it does not fit
-      pub map_wide : (q : Progress) (w' : Bytes) → not fit ≡ true → Notes R (length w) p w (remark_on d m 1 d.size) q w' → Fills (Of F) R (length w) p w d.size map (Done q) w'
+      pub map_wide : (q : Progress) (w' : Bytes) → not fit ≡ true → Notes R (length w) p w (remark_on d m 1 d.size) q w' → Fills (Of F) R (length w) p w d.size map (gives (tt {0}) q) w'
       map_wide q w' t x =
           fills_same (λ S o. o) (λ S o buf s. needs_is S buf s ∙ need_leaves F d m 24 buf (body S buf (eqb kind 20 || eqb kind 0)) s (sym e ∙ not-true fit t))
           (said R (length w) p w (Of F) d.size F d m 1 d.size q w' safe more x)
-
-      -- there is room for the mark
-      pub mark_room : (j : ℕ) → not fit ≡ false → stack_at R + d.size ≤ p.top → j ≡ length w → p.top - d.size + m.offset + 4 ≤ j
-      mark_room j t low l =
-          let k : m.offset + 24 ≤ d.size = fit_within fit (m.offset + 24) d.size e t in
-          omega (arith, top_within R (length w) p safe)
-
-      -- pairs may be written
-      pub pairs_asked : (j n : ℕ) → not fit ≡ false → Buffer R p d.size → (n ≡ 0 → ⊥) → j ≡ length w
-          → (Safe R j p × Open p) × (Buffer R p d.size × (m.offset + 24 ≤ d.size) × (0 < n))
-      pairs_asked j n t b z l =
-          ((subst (λ (k : ℕ). Safe R k p) (sym l) safe, more), (b, fit_within fit (m.offset + 24) d.size e t, positive n z))
-        where
-          positive : (k : ℕ) → (k ≡ 0 → ⊥) → 0 < k
-          positive zero f = absurd (f refl)
-          positive (suc k) f = omega arith
 
       module _ (t : not fit ≡ false) (y : Row) (read : y ≡ value_row T v) where
         fits_is : (S : Schema) (buf : Bytes) (s : State) → map S buf s ≡ body S buf (eqb kind 20 || eqb kind 0) s
@@ -181,7 +154,7 @@ module _ (T F : Bytes) (R : Round) (left : ℕ) (p : Progress) (w : Bytes) (d : 
         same_kind = ap (λ (a : Row). eqb a.kind 20 || eqb a.kind 0) (sym read)
 
         -- remark 2
-        pub map_wrong : (r : Wrote) (w' : Bytes) → not (eqb y.kind 20) && not (eqb y.kind 0) ≡ true
+        pub map_wrong : (r : Ans (Unit {0})) (w' : Bytes) → not (eqb y.kind 20) && not (eqb y.kind 0) ≡ true
             → ((F : Bytes) → Fills any_schema R (length w) p w d.size (λ S buf. wrong (def_of F d) (member_of m) v buf) r w') → Fills (Of F) R (length w) p w d.size map r w'
         map_wrong r w' a x =
             fills_same (λ S o. tt) (λ S o buf s. fits_is S buf s ∙ if_false (eqb kind 20 || eqb kind 0) _ (wrong (def_of F d) (member_of m) v buf) s (same_kind ∙ map_other y.kind a)) (x F)
@@ -213,7 +186,7 @@ module _ (T F : Bytes) (R : Round) (left : ℕ) (p : Progress) (w : Bytes) (d : 
               )
 
           -- it has pairs
-          pub map_pairs : (r : Wrote) (w'' : Bytes) → length w' ≡ length w → Fills (Of F) R (length w') p w' d.size (pairs y.a n) r w'' → Fills (Of F) R (length w) p w d.size map r w''
+          pub map_pairs : (r : Ans (Unit {0})) (w'' : Bytes) → length w' ≡ length w → Fills (Of F) R (length w') p w' d.size (pairs y.a n) r w'' → Fills (Of F) R (length w) p w d.size map r w''
           map_pairs r w'' l x = record {
             grew = fills.grew;
             says = λ S o s σ buf k rep.
@@ -229,8 +202,8 @@ module _ (T F : Bytes) (R : Round) (left : ℕ) (p : Progress) (w : Bytes) (d : 
           none_is S buf s z = if_true (is_empty (pairs_of (rows_from y.a (2 * n)))) (ret buf) _ s (pairs_empty y.a n z)
 
           -- it has none
-          pub map_empty : length w' ≡ length w → n ≡ 0 → Fills (Of F) R (length w) p w d.size map (Done p) w'
+          pub map_empty : length w' ≡ length w → n ≡ 0 → Fills (Of F) R (length w) p w d.size map (gives (tt {0}) p) w'
           map_empty l z =
-              map_pairs (Done p) w' l
+              map_pairs (gives (tt {0}) p) w' l
               (fills_same (λ S o. o) (λ S o buf s. none_is S buf s z)
               (stays R (length w') p w' (Of F) d.size (subst (λ (k : ℕ). Safe R k p) (sym l) safe)))

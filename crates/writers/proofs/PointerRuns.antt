@@ -19,17 +19,12 @@ use Rattle.layout.specs.Runs.{run, pointed, pointer_element}
 use Rattle.area.specs.declared.Round.{Round}
 use Rattle.area.specs.declared.Progress.{Progress}
 use Rattle.area.specs.Area.{Rep, with_top, env_of}
-use Rattle.area.specs.Posts.{Safe, Open, Grown, gives, refuses, Meets}
+use Rattle.area.specs.Posts.{paid_is, Safe, Open, Grown, gives, refuses, Meets, Ans}
 use Rattle.area.proofs.Reps.{rep_push, rep_put}
 use Rattle.cells.specs.declared.defs.Def.{Def}
 use Rattle.cells.specs.Names.{def_of, member_of}
-use Rattle.members.specs.declared.Wrote.{Wrote}
-use Rattle.members.specs.declared.Wrote.TheVariants.{Refused}
-use Rattle.members.specs.Posts.{paid_is}
-use Rattle.runs.specs.declared.Ran.TheVariants as Rn
 use Rattle.runs.specs.Posts.{Yields}
 use Rattle.runs.proofs.Loops.{length_rows_from, row_ith, Paid, Ready, Made, Halts, Running, run_cost, run_begin, run_room, run_turn, run_kept, run_stopped, run_too_dear}
-use Rattle.writers.specs.declared.write.Pointed.TheVariants as P
 use Rattle.writers.specs.Posts.{Of, deeper, Points}
 
 module _ (F T : Bytes) (R : Round) (n left : ℕ) (d : Def) (m : coded.Member) (reference : ℕ) where
@@ -57,7 +52,7 @@ module _ (F T : Bytes) (R : Round) (n left : ℕ) (d : Def) (m : coded.Member) (
     slot_empty : ((row T r).kind ≡ 21 → ⊥) → (S : Schema) → Of F S → (u : State) (τ : Bytes) → Rep S R n u τ q v → Made S R n τ (pointer_of S r u) (with_top q (q.top + 8)) v
     slot_empty e S k u τ h = record { state = u; bytes = zeros 8; is = slot_none S r u (ne_eqb (row T r).kind Struct e); rep = rep_push S R n 8 h room }
 
-    slot_nothing : (t : Progress) (v' : Bytes) → (row T r).kind ≡ 21 → Points (Of F) R n (with_top q (q.top + 8)) v (aims r) (P.Nothing t) v'
+    slot_nothing : (t : Progress) (v' : Bytes) → (row T r).kind ≡ 21 → Points (Of F) R n (with_top q (q.top + 8)) v (aims r) (gives None t) v'
         → (S : Schema) → Of F S → (u : State) (τ : Bytes) → Rep S R n u τ q v → Made S R n τ (pointer_of S r u) t v'
     unfolding after ret
     slot_nothing t v' e x S k u τ h = rw (slot_some S r u (eq-eqb (row T r).kind Struct e)) (go (aims r S u) (x.says S k u (τ ++ zeros 8) (rep_push S R n 8 h room)))
@@ -67,7 +62,7 @@ module _ (F T : Bytes) (R : Round) (n left : ℕ) (d : Def) (m : coded.Member) (
         go (done o z) y = rw y.1 (record { state = z; bytes = zeros 8; is = ap (λ (b : Bytes). done (Some b) z) no_pointer; rep = y.0 })
         go (stop j es) y = absurd y
 
-    slot_at : (t : Progress) (v' : Bytes) (a : ℕ) → (row T r).kind ≡ 21 → t.top ≡ q.top + 8 → Points (Of F) R n (with_top q (q.top + 8)) v (aims r) (P.At a t) v'
+    slot_at : (t : Progress) (v' : Bytes) (a : ℕ) → (row T r).kind ≡ 21 → t.top ≡ q.top + 8 → Points (Of F) R n (with_top q (q.top + 8)) v (aims r) (gives (Some a) t) v'
         → (S : Schema) → Of F S → (u : State) (τ : Bytes) → Rep S R n u τ q v → Made S R n τ (pointer_of S r u) t (put_pointer v' q.top a)
     unfolding after ret put_pointer
     slot_at t v' a e top x S k u τ h = rw (slot_some S r u (eq-eqb (row T r).kind Struct e)) (go (aims r S u) (x.says S k u (τ ++ zeros 8) (rep_push S R n 8 h room)))
@@ -84,7 +79,7 @@ module _ (F T : Bytes) (R : Round) (n left : ℕ) (d : Def) (m : coded.Member) (
             })
         go (stop j es) y = absurd y
 
-    slot_refused : (t : Progress) (v' : Bytes) (a : ℕ) → (row T r).kind ≡ 21 → Points (Of F) R n (with_top q (q.top + 8)) v (aims r) (P.Refused a t) v'
+    slot_refused : (t : Progress) (v' : Bytes) (a : ℕ) → (row T r).kind ≡ 21 → Points (Of F) R n (with_top q (q.top + 8)) v (aims r) (refuses a t) v'
         → (S : Schema) → Of F S → (u : State) (τ : Bytes) → Rep S R n u τ q v → Halts S R n a (pointer_of S r u) t v'
     unfolding after ret
     slot_refused t v' a e x S k u τ h = rw (slot_some S r u (eq-eqb (row T r).kind Struct e)) (go (aims r S u) (x.says S k u (τ ++ zeros 8) (rep_push S R n 8 h room)))
@@ -120,27 +115,27 @@ module _ (F T : Bytes) (R : Round) (n left : ℕ) (d : Def) (m : coded.Member) (
           run_turn (Of F) R n s w 8 1 pointer_of (rows_from first count) (first + k) a (row_ith first count k l) pointing_safe
           (record { more = omega arith; paid = omega arith; top = refl; met = omega arith }) (slot_empty q v (first + k) room e)
 
-      pub pointing_nothing : (t : Progress) (v' : Bytes) → (row T (first + k)).kind ≡ 21 → Points (Of F) R n (with_top q (q.top + 8)) v (aims (first + k)) (P.Nothing t) v' → Pointing t v' (k + 1)
+      pub pointing_nothing : (t : Progress) (v' : Bytes) → (row T (first + k)).kind ≡ 21 → Points (Of F) R n (with_top q (q.top + 8)) v (aims (first + k)) (gives None t) v' → Pointing t v' (k + 1)
       pointing_nothing t v' e x =
           run_turn (Of F) R n s w 8 1 pointer_of (rows_from first count) (first + k) a (row_ith first count k l) x.grew.0 (pushed t 1 (omega arith) x.grew.1) (slot_nothing q v (first + k) room t v' e x)
 
-      pub pointing_at : (t : Progress) (v' : Bytes) (b : ℕ) → (row T (first + k)).kind ≡ 21 → Points (Of F) R n (with_top q (q.top + 8)) v (aims (first + k)) (P.At b t) v'
+      pub pointing_at : (t : Progress) (v' : Bytes) (b : ℕ) → (row T (first + k)).kind ≡ 21 → Points (Of F) R n (with_top q (q.top + 8)) v (aims (first + k)) (gives (Some b) t) v'
           → Pointing t (put_pointer v' q.top b) (k + 1)
       pointing_at t v' b e x =
           run_turn (Of F) R n s w 8 1 pointer_of (rows_from first count) (first + k) a (row_ith first count k l) x.grew.0 (pushed t 0 (omega arith) x.grew.1)
           (slot_at q v (first + k) room t v' b e (omega (arith, x.grew.1.top)) x)
 
       pub pointing_stopped : (p : Progress) → Paid R p (run_cost 8 count) s → (t : Progress) (v' : Bytes) (b : ℕ) → (row T (first + k)).kind ≡ 21
-          → Points (Of F) R n (with_top q (q.top + 8)) v (aims (first + k)) (P.Refused b t) v' → Yields (Of F) R n p w 0 (λ S. run (env_of T S R) 8 12 (pointer_of S) (rows_from first count)) (Rn.Refused b t) v'
+          → Points (Of F) R n (with_top q (q.top + 8)) v (aims (first + k)) (refuses b t) v' → Yields (Of F) R n p w 0 (λ S. run (env_of T S R) 8 12 (pointer_of S) (rows_from first count)) (refuses b t) v'
       pointing_stopped p d t v' b e x =
           run_stopped (Of F) R n p w 8 1 count pointer_of (rows_from first count) T 12 0 (length_rows_from first count) (omega arith) (first + k) d a (row_ith first count k l) x.grew
           (slot_refused q v (first + k) room t v' b e x)
 
     pub pointing_kept : (q : Progress) (v : Bytes) (k : ℕ) (p : Progress) → Paid R p (run_cost 8 count) s → Pointing q v k → k ≡ count
-        → Yields (Of F) R n p w 0 (λ S. run (env_of T S R) 8 12 (pointer_of S) (rows_from first count)) (Rn.Kept 12 q) v
+        → Yields (Of F) R n p w 0 (λ S. run (env_of T S R) 8 12 (pointer_of S) (rows_from first count)) (gives (Some 12) q) v
     pointing_kept q v k p d a e = run_kept (Of F) R n p w 8 1 count pointer_of (rows_from first count) T 12 0 (length_rows_from first count) (omega arith) d a e
 
-  pub pointing_dear : (first count : ℕ) (p : Progress) (w : Bytes) (cost : ℕ) (r : Wrote) (k : ℕ) (q : Progress) → Safe R n p → cost ≡ run_cost 8 count → r ≡ paid_is R p cost → r ≡ Refused k q
-      → Yields (Of F) R n p w 0 (λ S. run (env_of T S R) 8 12 (pointer_of S) (rows_from first count)) (Rn.Refused k q) w
+  pub pointing_dear : (first count : ℕ) (p : Progress) (w : Bytes) (cost : ℕ) (r : Ans (Unit {0})) (k : ℕ) (q : Progress) → Safe R n p → cost ≡ run_cost 8 count → r ≡ paid_is R p cost → r ≡ refuses k q
+      → Yields (Of F) R n p w 0 (λ S. run (env_of T S R) 8 12 (pointer_of S) (rows_from first count)) (refuses k q) w
   pointing_dear first count p w cost r k q h e f g =
       run_too_dear (Of F) R n p w 8 1 count pointer_of (rows_from first count) T 12 0 (length_rows_from first count) (omega arith) cost r k q h e f g

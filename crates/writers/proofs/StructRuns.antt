@@ -18,15 +18,11 @@ use Rattle.layout.specs.Write.{pairs_of, pair_fields, pair_element}
 use Rattle.area.specs.declared.Round.{Round}
 use Rattle.area.specs.declared.Progress.{Progress}
 use Rattle.area.specs.Area.{Rep, env_of}
-use Rattle.area.specs.Posts.{Safe, Open, Grown, gives, refuses, Meets}
+use Rattle.area.specs.Posts.{paid_is, Safe, Open, Grown, gives, refuses, Meets, Ans}
 use Rattle.cells.specs.declared.defs.Def.{Def}
 use Rattle.cells.specs.Names.{def_of, member_of}
-use Rattle.members.specs.declared.Wrote.{Wrote}
-use Rattle.members.specs.declared.Wrote.TheVariants.{Done, Refused}
-use Rattle.members.specs.Posts.{remark_on, paid_is}
+use Rattle.members.specs.Posts.{remark_on}
 use Rattle.members.proofs.Filling.{went_noted}
-use Rattle.runs.specs.declared.Ran.{Ran}
-use Rattle.runs.specs.declared.Ran.TheVariants as Rn
 use Rattle.runs.specs.Posts.{Yields}
 use Rattle.runs.proofs.Loops.{Ith, length_rows_from, row_ith, Paid, Made, Halts, Running, run_cost, run_begin, run_turn, run_kept, run_stopped, run_too_dear}
 use Rattle.choices.specs.Posts.{element_row, element_fields, needs_note, Noted}
@@ -127,26 +123,26 @@ module _ (F T : Bytes) (R : Round) (n left : ℕ) (d : Def) (m : coded.Member) (
   row_rep S r q t v v' x u τ h false e = (x.met (ap not e)).says S u τ h
 
   module _ (q t x : Progress) (v v' v'' : Bytes) (r : ℕ) (k : ℕ) where
-    row_made : Noted R n q v d m (row T r).kind false t v' → Pushes (Named F i) R n t v' i.size (λ S. deeper T R left S (def_of F i) (fields_of T (row T r))) (Done x) v''
+    row_made : Noted R n q v d m (row T r).kind false t v' → Pushes (Named F i) R n t v' i.size (λ S. deeper T R left S (def_of F i) (fields_of T (row T r))) (gives (tt {0}) x) v''
         → (S : Schema) → Named F i S → (u : State) (τ : Bytes) → Rep S R n u τ q v → Made S R n τ (row_element S r u) x v''
     row_made a b S c u τ h = go (eqb (row T r).kind Struct || eqb (row T r).kind Null) refl
       where
         go : (z : Bool) → (eqb (row T r).kind Struct || eqb (row T r).kind Null) ≡ z → Made S R n τ (row_element S r u) x v''
         go z e = rw (row_is_law S r u z e) (pushed_made S R n i.size τ _ x v'' (b.says S c (at_row z u) τ (row_rep S r q t v v' a u τ h z e)))
 
-    row_halts : Noted R n q v d m (row T r).kind false t v' → Pushes (Named F i) R n t v' i.size (λ S. deeper T R left S (def_of F i) (fields_of T (row T r))) (Refused k x) v''
+    row_halts : Noted R n q v d m (row T r).kind false t v' → Pushes (Named F i) R n t v' i.size (λ S. deeper T R left S (def_of F i) (fields_of T (row T r))) (refuses k x) v''
         → (S : Schema) → Named F i S → (u : State) (τ : Bytes) → Rep S R n u τ q v → Halts S R n k (row_element S r u) x v''
     row_halts a b S c u τ h = go (eqb (row T r).kind Struct || eqb (row T r).kind Null) refl
       where
         go : (z : Bool) → (eqb (row T r).kind Struct || eqb (row T r).kind Null) ≡ z → Halts S R n k (row_element S r u) x v''
         go z e = rw (row_is_law S r u z e) (pushed_halts S R n i.size k τ _ x v'' (b.says S c (at_row z u) τ (row_rep S r q t v v' a u τ h z e)))
 
-    pair_made : Noted R n q v d m (row T r).kind true t v' → Pushes (Named F i) R n t v' i.size (λ S. deeper T R left S (def_of F i) (pair_fields (def_of F i) (r, r + 1))) (Done x) v''
+    pair_made : Noted R n q v d m (row T r).kind true t v' → Pushes (Named F i) R n t v' i.size (λ S. deeper T R left S (def_of F i) (pair_fields (def_of F i) (r, r + 1))) (gives (tt {0}) x) v''
         → (S : Schema) → Named F i S → (u : State) (τ : Bytes) → Rep S R n u τ q v → Made S R n τ (pair_of S (r, r + 1) u) x v''
     unfolding pair_element bind
     pair_made a b S c u τ h = let (f, g) = a.none refl in pushed_made S R n i.size τ (deeper T R left S (def_of F i) (pair_fields (def_of F i) (r, r + 1)) u) x v'' (b.says S c u τ (rw (f, g) h))
 
-    pair_halts : Noted R n q v d m (row T r).kind true t v' → Pushes (Named F i) R n t v' i.size (λ S. deeper T R left S (def_of F i) (pair_fields (def_of F i) (r, r + 1))) (Refused k x) v''
+    pair_halts : Noted R n q v d m (row T r).kind true t v' → Pushes (Named F i) R n t v' i.size (λ S. deeper T R left S (def_of F i) (pair_fields (def_of F i) (r, r + 1))) (refuses k x) v''
         → (S : Schema) → Named F i S → (u : State) (τ : Bytes) → Rep S R n u τ q v → Halts S R n k (pair_of S (r, r + 1) u) x v''
     unfolding pair_element bind
     pair_halts a b S c u τ h = let (f, g) = a.none refl in pushed_halts S R n i.size k τ (deeper T R left S (def_of F i) (pair_fields (def_of F i) (r, r + 1)) u) x v'' (b.says S c u τ (rw (f, g) h))
@@ -168,7 +164,7 @@ module _ (F T : Bytes) (R : Round) (n left : ℕ) (d : Def) (m : coded.Member) (
 
   pub struct_turn : (pairs : Bool) (first count : ℕ) (s : Progress) (w : Bytes) (q t x : Progress) (v v' v'' : Bytes) (k r : ℕ) (fs : Fields) → StructRunning pairs first count s w q v k → k < count
       → r ≡ element_row first k pairs → fs ≡ element_fields T (def_of F i) r pairs → Open q → Noted R n q v d m (row T r).kind pairs t v'
-      → Pushes (Named F i) R n t v' i.size (λ S. deeper T R left S (def_of F i) fs) (Done x) v'' → StructRunning pairs first count s w x v'' (k + 1)
+      → Pushes (Named F i) R n t v' i.size (λ S. deeper T R left S (def_of F i) fs) (gives (tt {0}) x) v'' → StructRunning pairs first count s w x v'' (k + 1)
   struct_turn true first count s w q t x v v' v'' k r fs a h e f o b c =
       run_turn (Named F i) R n s w i.size 0 pair_of (pairs_of (rows_from first (2 * count))) (first + 2 * k, first + 2 * k + 1) a (pair_ith first count k h) c.grew.0
       (quiet_grown R n q t x i.size (quiet R n q v d m (row T r).kind true t v' a.safe o b) c.grew.1) (rw (← e) (pair_made q t x v v' v'' r k b (rw (← f) c)))
@@ -177,10 +173,10 @@ module _ (F T : Bytes) (R : Round) (n left : ℕ) (d : Def) (m : coded.Member) (
       (quiet_grown R n q t x i.size (quiet R n q v d m (row T r).kind false t v' a.safe o b) c.grew.1) (rw (← e) (row_made q t x v v' v'' r k b (rw (← f) c)))
 
   module _ (p : Progress) (w : Bytes) (first count : ℕ) where
-    abbrev Post : Bool → Ran → Bytes → Type 0
+    abbrev Post : Bool → Ans (Option ℕ) → Bytes → Type 0
     Post pairs a v = Yields (Named F i) R n p w 0 (λ S. struct_run (env_of T S R) (deeper T R left S) (def_of F d) (member_of m) (def_of F i) i.name first count pairs) a v
 
-    pub struct_kept : (pairs : Bool) (s q : Progress) (v : Bytes) (k : ℕ) → Paid R p (run_cost i.size count) s → StructRunning pairs first count s w q v k → k ≡ count → Post pairs (Rn.Kept i.name q) v
+    pub struct_kept : (pairs : Bool) (s q : Progress) (v : Bytes) (k : ℕ) → Paid R p (run_cost i.size count) s → StructRunning pairs first count s w q v k → k ≡ count → Post pairs (gives (Some i.name) q) v
     unfolding def_of
     struct_kept true s q v k a b e =
         run_kept (Named F i) R n p w i.size 0 count pair_of (pairs_of (rows_from first (2 * count))) T i.name 0 (length_pairs first count) (omega arith) a b e
@@ -189,7 +185,7 @@ module _ (F T : Bytes) (R : Round) (n left : ℕ) (d : Def) (m : coded.Member) (
 
     pub struct_stopped : (pairs : Bool) (s q t x : Progress) (v v' v'' : Bytes) (k r a : ℕ) (fs : Fields) → Paid R p (run_cost i.size count) s → StructRunning pairs first count s w q v k → k < count
         → r ≡ element_row first k pairs → fs ≡ element_fields T (def_of F i) r pairs → Noted R n q v d m (row T r).kind pairs t v'
-        → Pushes (Named F i) R n t v' i.size (λ S. deeper T R left S (def_of F i) fs) (Refused a x) v'' → Post pairs (Rn.Refused a x) v''
+        → Pushes (Named F i) R n t v' i.size (λ S. deeper T R left S (def_of F i) fs) (refuses a x) v'' → Post pairs (refuses a x) v''
     unfolding def_of
     struct_stopped true s q t x v v' v'' k r a fs g b h e f y c =
         run_stopped (Named F i) R n p w i.size 0 count pair_of (pairs_of (rows_from first (2 * count))) T i.name 0 (length_pairs first count) (omega arith) (first + 2 * k, first + 2 * k + 1) g b
@@ -198,7 +194,7 @@ module _ (F T : Bytes) (R : Round) (n left : ℕ) (d : Def) (m : coded.Member) (
         run_stopped (Named F i) R n p w i.size 0 count row_element (rows_from first count) T i.name 0 (length_rows_from first count) (omega arith) (first + k) g b
         (row_ith first count k h) c.grew (rw (← e) (row_halts q t x v v' v'' r a y (rw (← f) c)))
 
-    pub struct_dear : (pairs : Bool) (cost : ℕ) (r : Wrote) (k : ℕ) (q : Progress) → Safe R n p → cost ≡ run_cost i.size count → r ≡ paid_is R p cost → r ≡ Refused k q → Post pairs (Rn.Refused k q) w
+    pub struct_dear : (pairs : Bool) (cost : ℕ) (r : Ans (Unit {0})) (k : ℕ) (q : Progress) → Safe R n p → cost ≡ run_cost i.size count → r ≡ paid_is R p cost → r ≡ refuses k q → Post pairs (refuses k q) w
     unfolding def_of
     struct_dear true cost r k q h e f g =
         run_too_dear (Named F i) R n p w i.size 0 count pair_of (pairs_of (rows_from first (2 * count))) T i.name 0 (length_pairs first count) (omega arith) cost r k q h e f g

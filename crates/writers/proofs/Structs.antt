@@ -19,22 +19,15 @@ use Rattle.layout.specs.Write.{ARRAYINFO, member}
 use Rattle.area.specs.declared.Round.{Round}
 use Rattle.area.specs.declared.Progress.{Progress}
 use Rattle.area.specs.Area.{Rep, stack_at, with_paid, with_top, started_in, env_of}
-use Rattle.area.specs.Posts.{Safe, Open, Grown, Marks}
+use Rattle.area.specs.Posts.{paid_is, Safe, Grown, Marks, gives, refuses}
 use Rattle.area.proofs.Reps.{rep_push}
 use Rattle.cells.specs.declared.defs.Def.{Def}
 use Rattle.cells.specs.Names.{def_of, member_of}
-use Rattle.members.specs.declared.Wrote.TheVariants.{Done, Refused}
-use Rattle.members.specs.Posts.{paid_is, Fills}
-use Rattle.members.proofs.Slotting.{paid_yes, paid_no, rep_paid, safe_paid}
+use Rattle.members.specs.Posts.{Fills}
+use Rattle.members.proofs.Slotting.{paid_yes, paid_no, rep_paid}
 use Rattle.choices.proofs.Nths.{count_members}
 use Rattle.writers.specs.Posts.{Of, Named, deeper, Pushes}
 use Rattle.writers.proofs.Starting.{Going, begin, skip, turn, turn_refused, finish, started_is, started_dear, too_deep, one_deeper}
-
--- the numbers are in order after paying
-pub paid_safe : (R : Round) (n : ℕ) (p : Progress) (cost : ℕ) (s : Progress) → Safe R n p → paid_is R p cost ≡ Done s → Safe R n s
-paid_safe R n p cost s safe e =
-    let (f, g) = paid_yes R p cost (Done s) s (sym e) refl in
-    rw g (safe_paid R n p cost safe (leb-true _ _ f))
 
 -- from before a structure to before its first member
 pub record Entered (F : Bytes) (R : Round) (n : ℕ) (p : Progress) (w : Bytes) (d : Def) (q : Progress) (w' : Bytes) : Type 0 where
@@ -47,10 +40,10 @@ pub record Entered (F : Bytes) (R : Round) (n : ℕ) (p : Progress) (w : Bytes) 
   pub says : (S : Schema) → Named F d S → (s : State) (σ : Bytes) → Rep S R n s σ p w
       → Rep S R n (started_in d.name (with_charge (s.charge + (16 + d.size)) s)) (σ ++ zeros d.size) q w'
 
-pub entered : (F : Bytes) (R : Round) (n : ℕ) (p : Progress) (w : Bytes) (d : Def) (s q : Progress) (w' : Bytes) → Safe R n p → paid_is R p (16 + d.size) ≡ Done s
+pub entered : (F : Bytes) (R : Round) (n : ℕ) (p : Progress) (w : Bytes) (d : Def) (s q : Progress) (w' : Bytes) → Safe R n p → paid_is R p (16 + d.size) ≡ gives (tt {0}) s
     → Marks R n s w (λ S. is_some ((winning S).struct d.name)) (started_in d.name) q w' → Entered F R n p w d (with_top q (q.top + d.size)) w'
 entered F R n p w d s q w' safe e m =
-    let (f, g) = paid_yes R p (16 + d.size) (Done s) s (sym e) refl in
+    let (f, g) = paid_yes R p (16 + d.size) (gives (tt {0}) s) s (sym e) refl in
     go s g f m
   where
     go : (s : Progress) → s ≡ with_paid p (p.charge + (16 + d.size)) → leb (p.charge + (16 + d.size)) R.cap ≡ true
@@ -124,20 +117,13 @@ module _ (F T : Bytes) (R : Round) (n left : ℕ) (d : Def) (fs : Fields) (q₀ 
         says = λ S a s σ r. skip S R n (env_of T S R) (deeper T R left S) (def_of F d) fs σ s q w k (member_of m) e (eq-eqb m.name ARRAYINFO f) (on.says S a s σ r);
       }
 
-  -- there is charge for a remark on it, and its structure is on the stack
-  pub writing_open : d.count < 65536 → Open q
-  writing_open h = omega (arith, on.few, on.spare, on.grown.met)
-
-  pub writing_low : stack_at R + d.size ≤ q.top
-  writing_low = omega (arith, on.low, on.grown.top)
-
   module _ (m : coded.Member) (v : Value) (h : k < d.count) (e : nth (def_of F d).members k ≡ Some (member_of m)) (f : m.name ≡ 0x100 → ⊥) (g : v ≡ field_named m.name fs) where
     found : field_named m.name fs ≡ v
     found = sym g
 
     -- the next is written
     pub writing_turn : (t : Progress) (w' : Bytes)
-        → Fills (Of F) R n q w d.size (λ S buf. member (env_of T S R) (deeper T R left S) (def_of F d) (member_of m) (kind_of m.kind) v buf) (Done t) w'
+        → Fills (Of F) R n q w d.size (λ S buf. member (env_of T S R) (deeper T R left S) (def_of F d) (member_of m) (kind_of m.kind) v buf) (gives (tt {0}) t) w'
         → Writing F T R n left d fs q₀ w₀ t w' (k + 1)
     unfolding def_of
     writing_turn t w' x =
@@ -163,8 +149,8 @@ module _ (F T : Bytes) (R : Round) (n left : ℕ) (d : Def) (fs : Fields) (q₀ 
     module _ (p : Progress) (w₁ : Bytes) (up : ℕ) (safe : Safe R n p) (some_left : 0 < up) (less : up - 1 ≡ left) (into : Entered F R n p w₁ d q₀ w₀) where
       -- the next is refused
       pub writing_refused : (a : ℕ) (t : Progress) (w' : Bytes)
-          → Fills (Of F) R n q w d.size (λ S buf. member (env_of T S R) (deeper T R left S) (def_of F d) (member_of m) (kind_of m.kind) v buf) (Refused a t) w'
-          → Pushes (Named F d) R n p w₁ d.size (λ S. deeper T R up S (def_of F d) fs) (Refused a t) w'
+          → Fills (Of F) R n q w d.size (λ S buf. member (env_of T S R) (deeper T R left S) (def_of F d) (member_of m) (kind_of m.kind) v buf) (refuses a t) w'
+          → Pushes (Named F d) R n p w₁ d.size (λ S. deeper T R up S (def_of F d) fs) (refuses a t) w'
       unfolding def_of
       writing_refused a t w' x =
           record {
@@ -178,7 +164,7 @@ module _ (F T : Bytes) (R : Round) (n left : ℕ) (d : Def) (fs : Fields) (q₀ 
 
   -- all are written
   pub writing_done : (p : Progress) (w₁ : Bytes) (up : ℕ) → Safe R n p → 0 < up → up - 1 ≡ left → Entered F R n p w₁ d q₀ w₀ → d.count ≤ k → d.count < 65536
-      → Pushes (Named F d) R n p w₁ d.size (λ S. deeper T R up S (def_of F d) fs) (Done q) w
+      → Pushes (Named F d) R n p w₁ d.size (λ S. deeper T R up S (def_of F d) fs) (gives (tt {0}) q) w
   unfolding def_of
   writing_done p w₁ up safe some_left less into h small =
       record {
@@ -203,7 +189,7 @@ module _ (F T : Bytes) (R : Round) (n left : ℕ) (d : Def) (fs : Fields) (q₀ 
 
 -- 8
 pub struct_deep : (F T : Bytes) (R : Round) (n : ℕ) (d : Def) (fs : Fields) (p : Progress) (w : Bytes) (up : ℕ) → Safe R n p → up ≡ 0
-    → Pushes (Named F d) R n p w d.size (λ S. deeper T R up S (def_of F d) fs) (Refused 8 p) w
+    → Pushes (Named F d) R n p w d.size (λ S. deeper T R up S (def_of F d) fs) (refuses 8 p) w
 struct_deep F T R n d fs p w up safe e =
     record {
       grew = safe;
@@ -211,11 +197,11 @@ struct_deep F T R n d fs p w up safe e =
     }
 
 -- 9
-pub struct_dear : (F T : Bytes) (R : Round) (n : ℕ) (d : Def) (fs : Fields) (p : Progress) (w : Bytes) (up k : ℕ) (t : Progress) → Safe R n p → 0 < up → paid_is R p (16 + d.size) ≡ Refused k t
-    → Pushes (Named F d) R n p w d.size (λ S. deeper T R up S (def_of F d) fs) (Refused k t) w
+pub struct_dear : (F T : Bytes) (R : Round) (n : ℕ) (d : Def) (fs : Fields) (p : Progress) (w : Bytes) (up k : ℕ) (t : Progress) → Safe R n p → 0 < up → paid_is R p (16 + d.size) ≡ refuses k t
+    → Pushes (Named F d) R n p w d.size (λ S. deeper T R up S (def_of F d) fs) (refuses k t) w
 unfolding def_of
 struct_dear F T R n d fs p w up k t safe some_left e =
-    let (f, g, h) = paid_no R p (16 + d.size) (Refused k t) k t (sym e) refl in
+    let (f, g, h) = paid_no R p (16 + d.size) (refuses k t) k t (sym e) refl in
     rw (g, h)
     (record {
       grew = safe;

@@ -15,11 +15,6 @@ use Rattle.area.specs.Area.{Rep, env_of}
 use Rattle.area.specs.Posts.{Safe, Grown, Ans, gives, refuses, Meets}
 use Rattle.cells.specs.declared.defs.Def.{Def}
 use Rattle.cells.specs.Names.{def_of}
-use Rattle.members.specs.declared.Wrote.{Wrote}
-use Rattle.members.specs.declared.Wrote.TheVariants.{Done, Refused}
-use Rattle.members.specs.Posts.{wrote_is}
-use Rattle.writers.specs.declared.write.Pointed.{Pointed}
-use Rattle.writers.specs.declared.write.Pointed.TheVariants as P
 
 -- S stands in the schema file F
 abbrev pub Of : Bytes → Schema → Type 0
@@ -39,32 +34,26 @@ pub record Started (p : Progress) (size : ℕ) (q : Progress) : Type 0 where
   pub grown : Grown p (16 + size) size 0 q
   pub spare : q.seen + 65536 * 15 + 65536 * p.charge ≤ p.seen + 65536 * q.charge
 
-abbrev pub Pushed : Round → ℕ → Progress → ℕ → Wrote → Type 0
-Pushed R n p size (Done q) = Safe R n q × Started p size q
-Pushed R n p size (Refused k q) = Safe R n q
+abbrev pub Pushed : Round → ℕ → Progress → ℕ → Ans (Unit {0}) → Type 0
+Pushed R n p size (gives u q) = Safe R n q × Started p size q
+Pushed R n p size (refuses k q) = Safe R n q
 
 -- a structure is written: f gives its bytes, which are then on top of the stack
-pub record Pushes (known : Schema → Type 0) (R : Round) (n : ℕ) (p : Progress) (w : Bytes) (size : ℕ) (f : Schema → M Bytes) (r : Wrote) (w' : Bytes) : Type 0 where
+pub record Pushes (known : Schema → Type 0) (R : Round) (n : ℕ) (p : Progress) (w : Bytes) (size : ℕ) (f : Schema → M Bytes) (r : Ans (Unit {0})) (w' : Bytes) : Type 0 where
   pub grew : Pushed R n p size r
   pub says : (S : Schema) → known S → (s : State) (σ : Bytes) → Rep S R n s σ p w
-      → Meets S R n (λ b. σ ++ b) (λ b x. length b ≡ size) (f S s) (wrote_is r) w'
+      → Meets S R n (λ b. σ ++ b) (λ b x. length b ≡ size) (f S s) r w'
 
--- a pointer, none, or a refusal
-abbrev pub pointed_is : Pointed → Ans (Option ℕ)
-pointed_is (P.At x q) = gives (Some x) q
-pointed_is (P.Nothing q) = gives None q
-pointed_is (P.Refused k q) = refuses k q
-
-abbrev pub Aimed : Round → ℕ → Progress → Pointed → Type 0
-Aimed R n p (P.At x q) = Safe R n q × Grown p 0 0 0 q
-Aimed R n p (P.Nothing q) = Safe R n q × Grown p 0 0 1 q
-Aimed R n p (P.Refused k q) = Safe R n q
+abbrev pub Aimed : Round → ℕ → Progress → Ans (Option ℕ) → Type 0
+Aimed R n p (gives (Some x) q) = Safe R n q × Grown p 0 0 0 q
+Aimed R n p (gives None q) = Safe R n q × Grown p 0 0 1 q
+Aimed R n p (refuses k q) = Safe R n q
 
 -- a structure by pointer is written and filed: f gives its pointer, or none
-pub record Points (known : Schema → Type 0) (R : Round) (n : ℕ) (p : Progress) (w : Bytes) (f : Schema → M (Option ℕ)) (r : Pointed) (w' : Bytes) : Type 0 where
+pub record Points (known : Schema → Type 0) (R : Round) (n : ℕ) (p : Progress) (w : Bytes) (f : Schema → M (Option ℕ)) (r : Ans (Option ℕ)) (w' : Bytes) : Type 0 where
   pub grew : Aimed R n p r
   pub says : (S : Schema) → known S → (s : State) (σ : Bytes) → Rep S R n s σ p w
-      → Meets S R n (λ o. σ) (λ o x. o ≡ x) (f S s) (pointed_is r) w'
+      → Meets S R n (λ o. σ) (λ o x. o ≡ x) (f S s) r w'
 
 -- the structures of a run, or the pairs of a map
 abbrev pub struct_run : Env → Writer → StructDef → Defs.Member → StructDef → ℕ → ℕ → ℕ → Bool → M (Option Run)

@@ -1,358 +1,282 @@
 // The writers: a structure leads to its members and a member to further structures, inline, by pointer, in runs and in map pairs.
-ghost use Rattle.std.specs.Prelude.{length};
+ghost use Rattle.std.specs.Prelude.{◌+◌};
 ghost use Rattle.value.specs.Rows.{row, rows_from};
 ghost use Rattle.layout.specs.Kinds;
 ghost use Rattle.layout.specs.Members;
 ghost use Rattle.layout.specs.Runs;
 ghost use Rattle.layout.specs.Write;
 ghost use Rattle.area.specs.Area.{env_of};
-ghost use Rattle.area.specs.Posts.{Safe, Open};
+ghost use Rattle.area.specs.Posts.{Open};
 ghost use Rattle.cells.specs.Names.{def_of, member_of};
-ghost use Rattle.members.specs.Posts.{Buffer, Fills};
+ghost use Rattle.members.specs.Posts.{Buffer};
+ghost use Rattle.members.specs.Steps.{Fills};
 ghost use Rattle.choices.specs.Sources.{fields_is};
-ghost use Rattle.writers.specs.Posts.{Of, Named, deeper, Pushes, Points};
+ghost use Rattle.writers.specs.Posts.{Of, Named, deeper};
+ghost use Rattle.writers.specs.Steps.{Pushes, Points};
 
-use crate::write::map::write_map;
-use crate::write::run::element_run;
-use area::items::lay;
+use area::Area;
+use area::fault::Fault;
 use area::stack::shift;
-use area::used::use_struct;
-use area::{Laid, Progress, Round};
 use cells::defs::{Def, high_half};
 use choices::choose::{
-    Info, array_info, by_pointer, embed, is_array_value, is_struct_value, item_count, lay_run, min,
-    own_type,
+    array_info, by_pointer, embed, is_array_value, is_struct_value, item_count, lay_run, own_type,
 };
 use choices::source::{Source, source_of, value_of};
 use definitions::members::{Member, read_member};
-use members::member::{fits, write_plain, wrong};
+use members::member::write_plain;
+use members::rows::Rows;
 use members::slots::put_pointer;
-use members::{Wrote, look_up, pay, say};
-use runs::Ran;
+use members::{Target, look_up};
+use numbers::refusal::Refusal;
 use value::kind::Kind;
 use value::{read_row, value_row};
 
 mod map;
 mod run;
 
-// A structure's pointer; none (remark 4); or a refusal.
+// What is packed, the rows and their definitions; and how many depths are left. The area is lent to the methods and not held here:
+// the borrow checker covers no loan of a part of what a struct in a struct refers to.
 #[derive(Clone, Copy)]
-pub enum Pointed {
-    At(u32, Progress),
-    Nothing(Progress),
-    Refused(u32, Progress),
+pub struct Writer<'a> {
+    pub sheet: &'a [u8],
+    pub schema: &'a [u8],
+    pub left: usize,
 }
 
-// A structure, with `left` depths left: its bytes grow on top of the stack.
-#[cycle(write)]
-pub fn write_struct(
-    sheet: &[u8],
-    schema: &[u8],
-    work: &mut [u8],
-    round: Round,
-    left: usize,
-    p: Progress,
-    d: Def,
-    from: Source,
-) -> Wrote
-    requires { Safe round (length work.old) p }
-    ensures { Pushes (Named schema.now d) round (length work.old) p work.old d.size
-        (λ S. deeper sheet.now round left S (def_of schema.now d) (fields_is sheet.now from)) result work.new }
-{
-    if left == 0 {
-        return Wrote::Refused(8, p);
-    }
-    let size = d.size as usize;
-    match pay(round, p, 16 + size) {
-        Wrote::Refused(k, t) => Wrote::Refused(k, t),
-        Wrote::Done(s) => {
-            let mut q = use_struct(work, round, s, d.name);
-            q.top = q.top + size;
-            let n = d.count as u32;
-            let mut k: u32 = 0;
-            while k < n {
-                let m = read_member(schema, d.place, k);
-                k += 1;
-                if m.name == 0x100 {
-                    continue;
-                }
-                let v = value_of(sheet, from, m.name);
-                match write_member(sheet, schema, work, round, left - 1, q, d, m, v) {
-                    Wrote::Refused(e, t) => {
-                        return Wrote::Refused(e, t);
-                    }
-                    Wrote::Done(t) => {
-                        q = t;
-                    }
-                }
+impl Writer<'_> {
+    // A structure: its bytes grow on top of the stack.
+    #[cycle(write)]
+    pub fn write_struct(&self, area: &mut Area<'_>, d: Def, from: Source) -> Result<(), Refusal>
+        ensures { Pushes (Named self.now.schema.now d) area.old d.size
+            (λ R S. deeper self.now.sheet.now R self.now.left S (def_of self.now.schema.now d) (fields_is self.now.sheet.now from)) result area.new }
+    {
+        if self.left == 0 {
+            return Err(Refusal::Depth);
+        }
+        let size = d.size as usize;
+        area.pay(16 + size)?;
+        area.use_struct(d.name);
+        area.progress.top += size;
+        let below = Writer {
+            left: self.left - 1,
+            ..*self
+        };
+        for k in 0..u32::from(d.count) {
+            let member = read_member(self.schema, d.place, k);
+            if member.name == 0x100 {
+                continue;
             }
-            Wrote::Done(q)
+            let at = Target {
+                structure: d,
+                member,
+                value: value_of(self.sheet, from, member.name),
+            };
+            below.write_member(area, &at)?;
+        }
+        Ok(())
+    }
+
+    // A member, by its type byte: a match on the byte, and tests of subtypes as bytes below, as document 01 has it (docs/DECISIONS.md, 18).
+    #[cycle(write)]
+    fn write_member(&self, area: &mut Area<'_>, at: &Target) -> Result<(), Refusal>
+        requires open { Open area.old.progress }
+        requires buffer { Buffer area.old.round area.old.progress at.now.structure.size }
+        ensures { Fills (Of self.now.schema.now) area.old at.now.structure.size
+            (λ R S buf. Write.member (env_of self.now.sheet.now S R) (deeper self.now.sheet.now R self.now.left S)
+            (def_of self.now.schema.now at.now.structure) (member_of at.now.member) (Kinds.kind_of at.now.member.kind) at.now.value buf) result area.new }
+    {
+        let ty = at.member.kind;
+        match ty {
+            0x0C => self.write_structure(area, at),
+            0x0D => self.write_array(area, at),
+            0x10 => self.write_map(area, at),
+            _ => write_plain(self.sheet, self.schema, area, at),
         }
     }
-}
 
-// A member, by its type byte.
-#[cycle(write)]
-fn write_member(
-    sheet: &[u8],
-    schema: &[u8],
-    work: &mut [u8],
-    round: Round,
-    left: usize,
-    p: Progress,
-    d: Def,
-    m: Member,
-    v: Option<usize>,
-) -> Wrote
-    requires safe { Safe round (length work.old) p × Open p }
-    requires buffer { Buffer round p d.size }
-    ensures { Fills (Of schema.now) round (length work.old) p work.old d.size
-        (λ S buf. Write.member (env_of sheet.now S round) (deeper sheet.now round left S) (def_of schema.now d) (member_of m) (Kinds.kind_of m.kind) v buf) result work.new }
-{
-    let ty = m.kind;
-    match ty {
-        0x0C => write_structure(sheet, schema, work, round, left, p, d, m, v),
-        0x0D => write_array(sheet, schema, work, round, left, p, d, m, v),
-        0x10 => write_map(sheet, schema, work, round, left, p, d, m, v),
-        _ => write_plain(sheet, schema, work, round, p, d, m, v),
-    }
-}
-
-// A structure: subtype 0 is inline, any other by pointer.
-#[cycle(write)]
-fn write_structure(
-    sheet: &[u8],
-    schema: &[u8],
-    work: &mut [u8],
-    round: Round,
-    left: usize,
-    p: Progress,
-    d: Def,
-    m: Member,
-    v: Option<usize>,
-) -> Wrote
-    requires safe { Safe round (length work.old) p × Open p }
-    requires buffer { Buffer round p d.size }
-    ensures { Fills (Of schema.now) round (length work.old) p work.old d.size
-        (λ S buf. Write.struct_member (env_of sheet.now S round) (deeper sheet.now round left S) (def_of schema.now d) (member_of m) v buf) result work.new }
-{
-    if !is_struct_value(value_row(sheet, v)) {
-        return wrong(work, round, p, d, m, v);
-    }
-    if m.subtype == 0 {
-        return write_inline(sheet, schema, work, round, left, p, d, m, v);
-    }
-    write_pointed(sheet, schema, work, round, left, p, d, m, v)
-}
-
-// A structure inline: it is written on top of the stack and moved into its parent.
-#[cycle(write)]
-fn write_inline(
-    sheet: &[u8],
-    schema: &[u8],
-    work: &mut [u8],
-    round: Round,
-    left: usize,
-    p: Progress,
-    d: Def,
-    m: Member,
-    v: Option<usize>,
-) -> Wrote
-    requires safe { Safe round (length work.old) p × Open p }
-    requires buffer { Buffer round p d.size }
-    ensures { Fills (Of schema.now) round (length work.old) p work.old d.size
-        (λ S buf. Write.inline_member (env_of sheet.now S round) (deeper sheet.now round left S) (def_of schema.now d) (member_of m)
-        (Members.row_of (env_of sheet.now S round) v) buf) result work.new }
-{
-    match look_up(schema, m.reference) {
-        None => Wrote::Done(say(work, round, p, d, m, 4, m.reference)),
-        Some(i) => {
-            let size = i.size as usize;
-            if !fits(d, m, size) {
-                return Wrote::Done(say(work, round, p, d, m, 1, d.size));
-            }
-            match write_struct(sheet, schema, work, round, left, p, i, source_of(v)) {
-                Wrote::Refused(k, t) => Wrote::Refused(k, t),
-                Wrote::Done(t) => {
-                    let base = p.top;
-                    let to = base - (d.size as usize) + (m.offset as usize);
-                    shift(work, base, to, size);
-                    let mut q = t;
-                    q.top = base;
-                    Wrote::Done(q)
-                }
-            }
+    // A structure: subtype 0 is inline, any other by pointer.
+    #[cycle(write)]
+    fn write_structure(&self, area: &mut Area<'_>, at: &Target) -> Result<(), Refusal>
+        requires open { Open area.old.progress }
+        requires buffer { Buffer area.old.round area.old.progress at.now.structure.size }
+        ensures { Fills (Of self.now.schema.now) area.old at.now.structure.size
+            (λ R S buf. Write.struct_member (env_of self.now.sheet.now S R) (deeper self.now.sheet.now R self.now.left S)
+            (def_of self.now.schema.now at.now.structure) (member_of at.now.member) at.now.value buf) result area.new }
+    {
+        if !is_struct_value(value_row(self.sheet, at.value)) {
+            at.wrong(area);
+            return Ok(());
         }
-    }
-}
-
-// A structure by pointer; without a Struct nothing is written.
-#[cycle(write)]
-fn write_pointed(
-    sheet: &[u8],
-    schema: &[u8],
-    work: &mut [u8],
-    round: Round,
-    left: usize,
-    p: Progress,
-    d: Def,
-    m: Member,
-    v: Option<usize>,
-) -> Wrote
-    requires safe { Safe round (length work.old) p × Open p }
-    requires buffer { Buffer round p d.size }
-    ensures { Fills (Of schema.now) round (length work.old) p work.old d.size
-        (λ S buf. Write.pointed_member (env_of sheet.now S round) (deeper sheet.now round left S) (def_of schema.now d) (member_of m)
-        (Members.row_of (env_of sheet.now S round) v) buf) result work.new }
-{
-    if !fits(d, m, 8) {
-        return Wrote::Done(say(work, round, p, d, m, 1, d.size));
-    }
-    match v {
-        None => Wrote::Done(p),
-        Some(r) => {
-            let row = read_row(sheet, r);
-            if !row.is(Kind::Struct) {
-                return Wrote::Done(p);
-            }
-            match point_to(sheet, schema, work, round, left, p, d, m, m.reference, r) {
-                Pointed::Refused(k, t) => Wrote::Refused(k, t),
-                Pointed::Nothing(t) => Wrote::Done(t),
-                Pointed::At(x, t) => {
-                    let at = p.top - (d.size as usize) + (m.offset as usize);
-                    put_pointer(work, at, x);
-                    Wrote::Done(t)
-                }
-            }
+        if at.member.subtype == 0 {
+            return self.write_inline(area, at);
         }
+        self.write_pointed(area, at)
     }
-}
 
-// The structure of row r, filed; its pointer.
-#[cycle(write)]
-fn point_to(
-    sheet: &[u8],
-    schema: &[u8],
-    work: &mut [u8],
-    round: Round,
-    left: usize,
-    p: Progress,
-    d: Def,
-    m: Member,
-    reference: u32,
-    r: usize,
-) -> Pointed
-    requires { Safe round (length work.old) p × Open p }
-    ensures { Points (Of schema.now) round (length work.old) p work.old
-        (λ S. Runs.pointed (env_of sheet.now S round) (deeper sheet.now round left S) (def_of schema.now d) (member_of m) reference (row sheet.now r)) result work.new }
-{
-    match own_type(schema, read_row(sheet, r), reference) {
-        None => Pointed::Nothing(say(work, round, p, d, m, 4, reference)),
-        Some(i) => match write_struct(sheet, schema, work, round, left, p, i, Source::Row(r)) {
-            Wrote::Refused(k, t) => Pointed::Refused(k, t),
-            Wrote::Done(t) => match lay(work, round, t, i.name, i.size as usize) {
-                Laid::Refused(k, u) => Pointed::Refused(k, u),
-                Laid::At(x, u) => Pointed::At(x, u),
-            },
-        },
-    }
-}
-
-// An array, by pointer or embedded.
-#[cycle(write)]
-fn write_array(
-    sheet: &[u8],
-    schema: &[u8],
-    work: &mut [u8],
-    round: Round,
-    left: usize,
-    p: Progress,
-    d: Def,
-    m: Member,
-    v: Option<usize>,
-) -> Wrote
-    requires safe { Safe round (length work.old) p × Open p }
-    requires buffer { Buffer round p d.size }
-    ensures { Fills (Of schema.now) round (length work.old) p work.old d.size
-        (λ S buf. Write.array_member (env_of sheet.now S round) (deeper sheet.now round left S) (def_of schema.now d) (member_of m) v buf) result work.new }
-{
-    match array_info(schema, d, m) {
-        Info::Missing => Wrote::Done(say(work, round, p, d, m, 5, 0)),
-        Info::At(x) => {
-            let row = value_row(sheet, v);
-            if !is_array_value(sheet, row) {
-                return wrong(work, round, p, d, m, v);
-            }
-            let n = item_count(row);
-            if by_pointer(m.subtype, x.subtype) {
-                return write_laid(sheet, schema, work, round, left, p, d, m, x, row.a, n);
-            }
-            let k = min(n, high_half(m.reference));
-            write_embedded(sheet, schema, work, round, left, p, d, m, x, row.a, k)
+    // A structure inline: it is written on top of the stack and moved into its parent.
+    #[cycle(write)]
+    fn write_inline(&self, area: &mut Area<'_>, at: &Target) -> Result<(), Refusal>
+        requires open { Open area.old.progress }
+        requires buffer { Buffer area.old.round area.old.progress at.now.structure.size }
+        ensures { Fills (Of self.now.schema.now) area.old at.now.structure.size
+            (λ R S buf. Write.inline_member (env_of self.now.sheet.now S R) (deeper self.now.sheet.now R self.now.left S)
+            (def_of self.now.schema.now at.now.structure) (member_of at.now.member)
+            (Members.row_of (env_of self.now.sheet.now S R) at.now.value) buf) result area.new }
+    {
+        let Target {
+            structure,
+            member,
+            value,
+        } = *at;
+        let Some(inner) = look_up(self.schema, member.reference) else {
+            at.say(area, Fault::NoStructure, member.reference);
+            return Ok(());
+        };
+        let size = inner.size as usize;
+        if !at.fits(size) {
+            at.say(area, Fault::MemberSize, structure.size);
+            return Ok(());
         }
+        let base = area.progress.top;
+        self.write_struct(area, inner, source_of(value))?;
+        shift(area.bytes, base, at.place(base), size);
+        area.progress.top = base;
+        Ok(())
     }
-}
 
-// An array by pointer; without items it ends here.
-#[cycle(write)]
-fn write_laid(
-    sheet: &[u8],
-    schema: &[u8],
-    work: &mut [u8],
-    round: Round,
-    left: usize,
-    p: Progress,
-    d: Def,
-    m: Member,
-    x: Member,
-    first: u32,
-    n: u32,
-) -> Wrote
-    requires safe { Safe round (length work.old) p × Open p }
-    requires buffer { Buffer round p d.size }
-    ensures { Fills (Of schema.now) round (length work.old) p work.old d.size
-        (λ S buf. Write.pointed_array (env_of sheet.now S round) (deeper sheet.now round left S) (def_of schema.now d) (member_of m) (member_of x) (rows_from first n) buf) result work.new }
-{
-    if !fits(d, m, 16) {
-        return Wrote::Done(say(work, round, p, d, m, 1, d.size));
-    }
-    if n == 0 {
-        return Wrote::Done(p);
-    }
-    match element_run(sheet, schema, work, round, left, p, d, m, x, first, n) {
-        Ran::Refused(k, t) => Wrote::Refused(k, t),
-        Ran::Dropped(t) => Wrote::Done(t),
-        Ran::Kept(block, t) => {
-            let base = p.top;
-            let at = base - (d.size as usize) + (m.offset as usize);
-            lay_run(work, round, t, block, t.top - base, at, n)
+    // A structure by pointer; without a Struct nothing is written.
+    #[cycle(write)]
+    fn write_pointed(&self, area: &mut Area<'_>, at: &Target) -> Result<(), Refusal>
+        requires open { Open area.old.progress }
+        requires buffer { Buffer area.old.round area.old.progress at.now.structure.size }
+        ensures { Fills (Of self.now.schema.now) area.old at.now.structure.size
+            (λ R S buf. Write.pointed_member (env_of self.now.sheet.now S R) (deeper self.now.sheet.now R self.now.left S)
+            (def_of self.now.schema.now at.now.structure) (member_of at.now.member)
+            (Members.row_of (env_of self.now.sheet.now S R) at.now.value) buf) result area.new }
+    {
+        let Target {
+            structure,
+            member,
+            value,
+        } = *at;
+        if !at.fits(8) {
+            at.say(area, Fault::MemberSize, structure.size);
+            return Ok(());
         }
+        let Some(r) = value else {
+            return Ok(());
+        };
+        if !read_row(self.sheet, r).is(Kind::Struct) {
+            return Ok(());
+        }
+        let place = at.place(area.progress.top);
+        if let Some(x) = self.point_to(area, at, member.reference, r)? {
+            put_pointer(area.bytes, place, x);
+        }
+        Ok(())
     }
-}
 
-// An embedded array: first the run with all that it lays, remarks and uses, then does it fit.
-#[cycle(write)]
-fn write_embedded(
-    sheet: &[u8],
-    schema: &[u8],
-    work: &mut [u8],
-    round: Round,
-    left: usize,
-    p: Progress,
-    d: Def,
-    m: Member,
-    x: Member,
-    first: u32,
-    n: u32,
-) -> Wrote
-    requires safe { Safe round (length work.old) p × Open p }
-    requires buffer { Buffer round p d.size }
-    ensures { Fills (Of schema.now) round (length work.old) p work.old d.size
-        (λ S buf. Write.embedded_array (env_of sheet.now S round) (deeper sheet.now round left S) (def_of schema.now d) (member_of m) (member_of x) (rows_from first n) buf) result work.new }
-{
-    match element_run(sheet, schema, work, round, left, p, d, m, x, first, n) {
-        Ran::Refused(k, t) => Wrote::Refused(k, t),
-        Ran::Dropped(t) => Wrote::Done(t),
-        Ran::Kept(block, t) => embed(work, round, p.top, t, d, m),
+    // The structure of row r, filed; its pointer.
+    #[cycle(write)]
+    fn point_to(
+        &self,
+        area: &mut Area<'_>,
+        at: &Target,
+        reference: u32,
+        r: usize,
+    ) -> Result<Option<u32>, Refusal>
+        requires { Open area.old.progress }
+        ensures { Points (Of self.now.schema.now) area.old
+            (λ R S. Runs.pointed (env_of self.now.sheet.now S R) (deeper self.now.sheet.now R self.now.left S)
+            (def_of self.now.schema.now at.now.structure) (member_of at.now.member) reference (row self.now.sheet.now r)) result area.new }
+    {
+        let Some(inner) = own_type(self.schema, read_row(self.sheet, r), reference) else {
+            at.say(area, Fault::NoStructure, reference);
+            return Ok(None);
+        };
+        self.write_struct(area, inner, Source::Row(r))?;
+        let x = area.lay(inner.name, inner.size as usize)?;
+        Ok(Some(x))
+    }
+
+    // An array, by pointer or embedded.
+    #[cycle(write)]
+    fn write_array(&self, area: &mut Area<'_>, at: &Target) -> Result<(), Refusal>
+        requires open { Open area.old.progress }
+        requires buffer { Buffer area.old.round area.old.progress at.now.structure.size }
+        ensures { Fills (Of self.now.schema.now) area.old at.now.structure.size
+            (λ R S buf. Write.array_member (env_of self.now.sheet.now S R) (deeper self.now.sheet.now R self.now.left S)
+            (def_of self.now.schema.now at.now.structure) (member_of at.now.member) at.now.value buf) result area.new }
+    {
+        let Some(x) = array_info(self.schema, at.structure, at.member) else {
+            at.say(area, Fault::NoArrayInfo, 0);
+            return Ok(());
+        };
+        let row = value_row(self.sheet, at.value);
+        if !is_array_value(self.sheet, row) {
+            at.wrong(area);
+            return Ok(());
+        }
+        let first = row.a;
+        let count = item_count(row);
+        if by_pointer(at.member.subtype, x.subtype) {
+            return self.write_laid(area, at, x, Rows { first, count });
+        }
+        let count = count.min(high_half(at.member.reference));
+        self.write_embedded(area, at, x, Rows { first, count })
+    }
+
+    // An array by pointer; without items it ends here.
+    #[cycle(write)]
+    fn write_laid(
+        &self,
+        area: &mut Area<'_>,
+        at: &Target,
+        x: Member,
+        rows: Rows,
+    ) -> Result<(), Refusal>
+        requires open { Open area.old.progress }
+        requires buffer { Buffer area.old.round area.old.progress at.now.structure.size }
+        ensures { Fills (Of self.now.schema.now) area.old at.now.structure.size
+            (λ R S buf. Write.pointed_array (env_of self.now.sheet.now S R) (deeper self.now.sheet.now R self.now.left S)
+            (def_of self.now.schema.now at.now.structure) (member_of at.now.member) (member_of x) (rows_from rows.first rows.count) buf) result area.new }
+    {
+        let size = at.structure.size;
+        if !at.fits(16) {
+            at.say(area, Fault::MemberSize, size);
+            return Ok(());
+        }
+        if rows.count == 0 {
+            return Ok(());
+        }
+        let base = area.progress.top;
+        let Some(block) = self.element_run(area, at, x, rows)? else {
+            return Ok(());
+        };
+        let place = at.place(base);
+        let len = area.progress.top - base;
+        lay_run(area, block, len, place, rows.count)
+    }
+
+    // An embedded array: first the run with all that it lays, remarks and uses, then does it fit.
+    #[cycle(write)]
+    fn write_embedded(
+        &self,
+        area: &mut Area<'_>,
+        at: &Target,
+        x: Member,
+        rows: Rows,
+    ) -> Result<(), Refusal>
+        requires open { Open area.old.progress }
+        requires buffer { Buffer area.old.round area.old.progress at.now.structure.size }
+        ensures { Fills (Of self.now.schema.now) area.old at.now.structure.size
+            (λ R S buf. Write.embedded_array (env_of self.now.sheet.now S R) (deeper self.now.sheet.now R self.now.left S)
+            (def_of self.now.schema.now at.now.structure) (member_of at.now.member) (member_of x) (rows_from rows.first rows.count) buf) result area.new }
+    {
+        let base = area.progress.top;
+        if self.element_run(area, at, x, rows)?.is_some() {
+            embed(area, base, at);
+        }
+        Ok(())
     }
 }

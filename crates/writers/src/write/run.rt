@@ -1,170 +1,110 @@
 // Runs of an array's elements and of a map's pairs: they grow on top of the stack.
-ghost use Rattle.std.specs.Prelude.{length};
 ghost use Rattle.value.specs.Rows.{rows_from};
 ghost use Rattle.layout.specs.Kinds;
 ghost use Rattle.layout.specs.Runs;
 ghost use Rattle.area.specs.Area.{env_of};
-ghost use Rattle.area.specs.Posts.{Safe, Open};
+ghost use Rattle.area.specs.Posts.{Open};
 ghost use Rattle.cells.specs.Names.{def_of, member_of};
-ghost use Rattle.runs.specs.Posts.{Yields};
+ghost use Rattle.choices.specs.Items.{is_pairs};
+ghost use Rattle.runs.specs.Steps.{Yields};
 ghost use Rattle.writers.specs.Posts.{Of, Named, deeper, struct_run};
 
-use crate::write::{Pointed, point_to, write_struct};
-use area::{Progress, Round};
+use crate::write::Writer;
+use area::Area;
+use area::fault::Fault;
 use cells::defs::Def;
-use choices::elements::{element_note, element_row, element_source};
+use choices::elements::Items;
 use definitions::members::Member;
+use members::rows::Rows;
 use members::slots::put_pointer;
-use members::{Wrote, look_up, pay};
-use runs::{Ran, plain_element_run, run_cost, stop_run};
+use members::{Target, look_up};
+use numbers::refusal::Refusal;
+use runs::{plain_element_run, stop_run};
 use value::kind::Kind;
 use value::read_row;
 
-// The n rows from `first` on as elements that x describes.
-#[cycle(write)]
-pub fn element_run(
-    sheet: &[u8],
-    schema: &[u8],
-    work: &mut [u8],
-    round: Round,
-    left: usize,
-    p: Progress,
-    d: Def,
-    m: Member,
-    x: Member,
-    first: u32,
-    n: u32,
-) -> Ran
-    requires { Safe round (length work.old) p × Open p }
-    ensures { Yields (Of schema.now) round (length work.old) p work.old 1
-        (λ S. Runs.element_run (env_of sheet.now S round) (deeper sheet.now round left S) (def_of schema.now d) (member_of m) (member_of x) (Kinds.kind_of x.kind) (rows_from first n)) result work.new }
-{
-    if x.kind != 0x0C {
-        return plain_element_run(sheet, schema, work, round, p, d, m, x, first, n);
-    }
-    if x.subtype == 3 {
-        return pointer_run(
-            sheet,
-            schema,
-            work,
-            round,
-            left,
-            p,
-            d,
-            m,
-            x.reference,
-            first,
-            n,
-        );
-    }
-    match look_up(schema, x.reference) {
-        None => stop_run(work, round, p, d, m, 8, x.reference),
-        Some(i) => struct_run(
-            sheet, schema, work, round, left, p, d, m, i, first, n, false,
-        ),
-    }
-}
-
-// Structures by pointer: 8 bytes for each row; what is no Struct leaves them zero.
-#[cycle(write)]
-fn pointer_run(
-    sheet: &[u8],
-    schema: &[u8],
-    work: &mut [u8],
-    round: Round,
-    left: usize,
-    p: Progress,
-    d: Def,
-    m: Member,
-    reference: u32,
-    first: u32,
-    n: u32,
-) -> Ran
-    requires { Safe round (length work.old) p × Open p }
-    ensures { Yields (Of schema.now) round (length work.old) p work.old 0
-        (λ S. Runs.run (env_of sheet.now S round) 8 12
-        (Runs.pointer_element (env_of sheet.now S round) (deeper sheet.now round left S) (def_of schema.now d) (member_of m) reference) (rows_from first n)) result work.new }
-{
-    match pay(round, p, run_cost(8, n)) {
-        Wrote::Refused(k, t) => Ran::Refused(k, t),
-        Wrote::Done(s) => {
-            let mut q = s;
-            let mut k: u32 = 0;
-            while k < n {
-                let at = q.top;
-                let r = (first as usize) + (k as usize);
-                q.top = at + 8;
-                k += 1;
-                let v = read_row(sheet, r);
-                if !v.is(Kind::Struct) {
-                    continue;
-                }
-                match point_to(sheet, schema, work, round, left, q, d, m, reference, r) {
-                    Pointed::Refused(e, t) => {
-                        return Ran::Refused(e, t);
-                    }
-                    Pointed::Nothing(t) => {
-                        q = t;
-                    }
-                    Pointed::At(x, t) => {
-                        put_pointer(work, at, x);
-                        q = t;
-                    }
-                }
-            }
-            Ran::Kept(12, q)
+impl Writer<'_> {
+    // The rows as elements that x describes, by its type byte and subtype, as in `write_member`. x goes with the rows as far as here,
+    // where their kind is known, and is no part of them.
+    #[cycle(write)]
+    pub fn element_run(
+        &self,
+        area: &mut Area<'_>,
+        at: &Target,
+        x: Member,
+        rows: Rows,
+    ) -> Result<Option<u32>, Refusal>
+        requires { Open area.old.progress }
+        ensures { Yields (Of self.now.schema.now) area.old 1
+            (λ R S. Runs.element_run (env_of self.now.sheet.now S R) (deeper self.now.sheet.now R self.now.left S)
+            (def_of self.now.schema.now at.now.structure) (member_of at.now.member) (member_of x) (Kinds.kind_of x.kind)
+            (rows_from rows.first rows.count)) result area.new }
+    {
+        if x.kind != 0x0C {
+            return plain_element_run(self.sheet, self.schema, area, at, x, rows);
         }
-    }
-}
-
-// A run of structures of the definition i, or of a map's pairs.
-#[cycle(write)]
-pub fn struct_run(
-    sheet: &[u8],
-    schema: &[u8],
-    work: &mut [u8],
-    round: Round,
-    left: usize,
-    p: Progress,
-    d: Def,
-    m: Member,
-    i: Def,
-    first: u32,
-    n: u32,
-    pairs: bool,
-) -> Ran
-    requires { Safe round (length work.old) p × Open p }
-    ensures { Yields (Named schema.now i) round (length work.old) p work.old 0
-        (λ S. struct_run (env_of sheet.now S round) (deeper sheet.now round left S) (def_of schema.now d) (member_of m) (def_of schema.now i) i.name first n pairs) result work.new }
-{
-    match pay(round, p, run_cost(i.size, n)) {
-        Wrote::Refused(k, t) => Ran::Refused(k, t),
-        Wrote::Done(s) => {
-            let mut q = s;
-            let mut k: u32 = 0;
-            while k < n {
-                let r = element_row(first, k, pairs);
-                let t = element_note(sheet, work, round, q, d, m, r, pairs);
-                match write_struct(
-                    sheet,
-                    schema,
-                    work,
-                    round,
-                    left,
-                    t,
-                    i,
-                    element_source(schema, i, r, pairs),
-                ) {
-                    Wrote::Refused(e, u) => {
-                        return Ran::Refused(e, u);
-                    }
-                    Wrote::Done(u) => {
-                        q = u;
-                    }
-                }
-                k += 1;
-            }
-            Ran::Kept(i.name, q)
+        if x.subtype == 3 {
+            return self.pointer_run(area, at, x.reference, rows);
         }
+        let Some(inner) = look_up(self.schema, x.reference) else {
+            stop_run(area, at, Fault::NoElement, x.reference);
+            return Ok(None);
+        };
+        self.struct_run(area, at, inner, rows, Items::Elements)
+    }
+
+    // Structures by pointer: 8 bytes for each row; what is no Struct leaves them zero.
+    #[cycle(write)]
+    fn pointer_run(
+        &self,
+        area: &mut Area<'_>,
+        at: &Target,
+        reference: u32,
+        rows: Rows,
+    ) -> Result<Option<u32>, Refusal>
+        requires { Open area.old.progress }
+        ensures { Yields (Of self.now.schema.now) area.old 0
+            (λ R S. Runs.run (env_of self.now.sheet.now S R) 8 12
+            (Runs.pointer_element (env_of self.now.sheet.now S R) (deeper self.now.sheet.now R self.now.left S)
+            (def_of self.now.schema.now at.now.structure) (member_of at.now.member) reference) (rows_from rows.first rows.count)) result area.new }
+    {
+        area.pay(rows.cost(8))?;
+        for k in 0..rows.count {
+            let place = area.progress.top;
+            area.progress.top = place + 8;
+            let r = rows.row(k);
+            if !read_row(self.sheet, r).is(Kind::Struct) {
+                continue;
+            }
+            if let Some(x) = self.point_to(area, at, reference, r)? {
+                put_pointer(area.bytes, place, x);
+            }
+        }
+        Ok(Some(12))
+    }
+
+    // A run of structures of the definition `inner`, or of a map's pairs.
+    #[cycle(write)]
+    pub fn struct_run(
+        &self,
+        area: &mut Area<'_>,
+        at: &Target,
+        inner: Def,
+        rows: Rows,
+        items: Items,
+    ) -> Result<Option<u32>, Refusal>
+        requires { Open area.old.progress }
+        ensures { Yields (Named self.now.schema.now inner) area.old 0
+            (λ R S. struct_run (env_of self.now.sheet.now S R) (deeper self.now.sheet.now R self.now.left S)
+            (def_of self.now.schema.now at.now.structure) (member_of at.now.member) (def_of self.now.schema.now inner) inner.name
+            rows.first rows.count (is_pairs items)) result area.new }
+    {
+        area.pay(rows.cost(inner.size))?;
+        for k in 0..rows.count {
+            let r = items.row(rows.first, k);
+            items.note(self.sheet, area, at, r);
+            self.write_struct(area, inner, items.source(self.schema, inner, r))?;
+        }
+        Ok(Some(inner.name))
     }
 }
