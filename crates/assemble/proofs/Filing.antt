@@ -34,13 +34,13 @@ use Rattle.area.proofs.Over.{over_mid, over_part, over_seq, length_over}
 use Rattle.area.proofs.Spots.{length_rows_of}
 use Rattle.assemble.specs.Map.{Whole, places_of}
 use Rattle.psch.specs.Used.{records_for, size_of, Counts}
-use Rattle.assemble.specs.Packed.{Holds, table_at}
+use Rattle.assemble.specs.Packed.{Holds, Fitting, table_at}
 use Rattle.psch.specs.Used.{used_records, AllStored}
 use Rattle.assemble.proofs.Maps.{count_places}
 use Rattle.psch.proofs.Sections.{over_none}
 use Rattle.assemble.proofs.Heads.{stands_behind}
 use Rattle.psch.proofs.Listing.{count_records}
-use Rattle.psch.proofs.Schemas.{struct_records, enum_records, used_size}
+use Rattle.psch.proofs.Schemas.{kind_records, used_size}
 use Rattle.assemble.proofs.Holding.{each, used_records_law, structs_stored, enums_stored}
 
 -- a length that was counted so far judges 13 as the file's length does
@@ -76,7 +76,7 @@ part_written w x at h =
     mid_over at k w (over d 0 x) lo ∙ ap (λ (v : Bytes). over v at (over d 0 x)) sp ∙ over_part P d Q (over d 0 x) at lp (ld ∙ sym lo)
     ∙ sym (ap₂ (λ (v : Bytes) (j : ℕ). over v j x) sp z ∙ over_mid P d Q 0 x (omega (arith, ld)))
 
-module _ (F : Bytes) (R : Round) (p : Progress) (w : Bytes) (S : Schema) (s : State) (σ : Bytes) (h : Safe R (length w) p) (H : Holds F R p w S s σ) where
+module _ {F : Bytes} {R : Round} {p : Progress} {w : Bytes} {S : Schema} {s : State} {σ : Bytes} (h : Safe R (length w) p) (H : Holds F R p w S s σ) where
   abbrev c : Core
   c = s.core
 
@@ -149,13 +149,13 @@ module _ (F : Bytes) (R : Round) (p : Progress) (w : Bytes) (S : Schema) (s : St
       omega (arith, file_length (winning S) pointer c, psin_length (data_of c), data_total c H.tiled, pmap_length (pointer % 4096) c.blocks, H.rep.blocks)
 
   file_sum : (pointer : ℕ)
-      → length (file_of (winning S) pointer c) ≡ 16 + total c.blocks + (16 + 16 * p.blocks) + 12 + size_of (struct_records F p w) + size_of (enum_records F R p w)
+      → length (file_of (winning S) pointer c) ≡ 16 + total c.blocks + (16 + 16 * p.blocks) + 12 + size_of (kind_records Structure F R p w) + size_of (kind_records Enum F R p w)
   file_sum pointer =
       let r = ap (λ (x : Records). length (psch_bytes x)) (records_made [] w (omega arith) (sym (over_none w table_at))) in
       omega (arith, file_size pointer, r, used_size F R p w, count_records F w Structure 65536 p.structs, count_records F w Enum (65536 + 4 * R.entries) p.enums)
 
-  pub counted : (pointer size sum sum' : ℕ) → size ≡ total c.blocks → Counts sum (16 + size + (16 + 16 * p.blocks) + 12 + size_of (struct_records F p w))
-      → Counts sum' (sum + size_of (enum_records F R p w)) → Counts sum' (length (file_of (winning S) pointer c))
+  pub counted : (pointer size sum sum' : ℕ) → size ≡ total c.blocks → Counts sum (16 + size + (16 + 16 * p.blocks) + 12 + size_of (kind_records Structure F R p w))
+      → Counts sum' (sum + size_of (kind_records Enum F R p w)) → Counts sum' (length (file_of (winning S) pointer c))
   counted pointer size sum sum' ed a b = go (leb sum 16777216) refl
     where
       go : (t : Bool) → leb sum 16777216 ≡ t → Counts sum' (length (file_of (winning S) pointer c))
@@ -167,48 +167,48 @@ module _ (F : Bytes) (R : Round) (p : Progress) (w : Bytes) (S : Schema) (s : St
           let e = a.long l in
           record { exact = λ g. absurd (omega (arith, b.exact g, l, g)); long = λ g. omega (arith, e, ed, file_sum pointer) }
 
-  -- the sections
+-- the sections
+module _ {F : Bytes} {R : Round} {p : Progress} {w : Bytes} {pointer room : ℕ} {S : Schema} {s : State} {σ : Bytes} (h : Safe R (length w) p) (f : Fitting F R p w pointer room S s σ) where
+  pub whole : Whole R p w room s.core
+  whole =
+      record {
+        tiled = f.holds.tiled;
+        rows = rows_stand h f.holds;
+        many = sym f.holds.rep.blocks;
+        few = h.blocks;
+        names = short_names s.core.blocks f.holds.rep.small;
+        small = omega (arith, file_size h f.holds pointer, f.small);
+        items = items_stand_law h f.holds;
+        ends = sym f.holds.rep.end;
+        fits = omega (arith, file_size h f.holds pointer, f.fits, data_total s.core f.holds.tiled);
+      }
 
-  module _ (pointer room : ℕ) (fits : length (file_of (winning S) pointer c) ≤ room) (small : length (file_of (winning S) pointer c) ≤ 16777216) where
-    pub whole : Whole w 0 p.blocks table_at (items_at R) p.end room c
-    whole =
-        record {
-          tiled = H.tiled;
-          blocks = record { here = rows_stand; many = sym H.rep.blocks; names = short_names c.blocks H.rep.small; small = omega (arith, file_size pointer, small) };
-          items = items_stand_law;
-          ends = sym H.rep.end;
-          behind_rows = omega (arith, h.blocks);
-          behind_table = omega (arith, h.blocks);
-          few = h.blocks;
-          fits = omega (arith, file_size pointer, fits, data_total c H.tiled);
-        }
+  module _ (o : Bytes) {o1 w' : Bytes} {end : ℕ} (eo : o1 ≡ over o 0 (psin_of (data_of s.core) ++ pmap_of (pointer % 4096) s.core.blocks)) (ew : w' ≡ over w table_at (words (places_of 16 s.core.blocks)))
+      (ee : end ≡ 16 + length (data_of s.core) + (16 + 16 * p.blocks)) where
+    few_places : length (words (places_of 16 s.core.blocks)) ≤ 4 * p.blocks
+    few_places = omega (arith, length_words (places_of 16 s.core.blocks), count_places 16 s.core.blocks, f.holds.rep.blocks)
 
-    module _ (o o1 w' : Bytes) (end : ℕ) (eo : o1 ≡ over o 0 (psin_of (data_of c) ++ pmap_of (pointer % 4096) c.blocks)) (ew : w' ≡ over w table_at (words (places_of 16 c.blocks)))
-        (ee : end ≡ 16 + length (data_of c) + (16 + 16 * p.blocks)) where
-      few_places : length (words (places_of 16 c.blocks)) ≤ 4 * p.blocks
-      few_places = omega (arith, length_words (places_of 16 c.blocks), count_places 16 c.blocks, H.rep.blocks)
+    made : used_records F R p w' ≡ records_of (used_of (winning S) s.core)
+    made = records_made h f.holds (words (places_of 16 s.core.blocks)) w' few_places ew
 
-      made : used_records F R p w' ≡ records_of (used_of (winning S) c)
-      made = records_made (words (places_of 16 c.blocks)) w' few_places ew
+    pub stored : AllStored F R p w'
+    stored = records_stored h f.holds (words (places_of 16 s.core.blocks)) w' few_places ew
 
-      pub stored : AllStored F R p w'
-      stored = records_stored (words (places_of 16 c.blocks)) w' few_places ew
+    -- PSCH fits behind the two others
+    pub rest_fits : end + length (psch_bytes (used_records F R p w')) ≤ room
+    rest_fits = omega (arith, ap (λ (x : Records). length (psch_bytes x)) made, ee, data_total s.core f.holds.tiled, file_size h f.holds pointer, f.fits)
 
-      -- PSCH fits behind the two others
-      pub rest_fits : end + length (psch_bytes (used_records F R p w')) ≤ room
-      rest_fits = omega (arith, ap (λ (x : Records). length (psch_bytes x)) made, ee, data_total c H.tiled, file_size pointer, fits)
+    pub rest_small : length (psch_bytes (used_records F R p w')) < 256 ^ 4
+    rest_small = omega (arith, ap (λ (x : Records). length (psch_bytes x)) made, file_size h f.holds pointer, f.small)
 
-      pub rest_small : length (psch_bytes (used_records F R p w')) < 256 ^ 4
-      rest_small = omega (arith, ap (λ (x : Records). length (psch_bytes x)) made, file_size pointer, small)
-
-      pub file_put : (o2 : Bytes) → room ≡ length o → length o1 ≡ length o → o2 ≡ put_mid end (length o1 - end) o1 (over (take (length o1 - end) (drop end o1)) 0 (psch_bytes (used_records F R p w')))
-          → o2 ≡ over o 0 (file_of (winning S) pointer c)
-      unfolding file_of
-      file_put o2 er lo e =
-          let A : Bytes = psin_of (data_of c) in
-          let B : Bytes = pmap_of (pointer % 4096) c.blocks in
-          let C : Bytes = psch_bytes (records_of (used_of (winning S) c)) in
-          let la : end ≡ 0 + length (A ++ B) = omega (arith, ee, length-append A B, psin_length (data_of c), pmap_length (pointer % 4096) c.blocks, H.rep.blocks) in
-          e ∙ part_written o1 (psch_bytes (used_records F R p w')) end (omega (arith, rest_fits, er, lo))
-          ∙ ap₂ (λ (x : Bytes) (r : Records). over x end (psch_bytes r)) eo made ∙ ap (λ (k : ℕ). over (over o 0 (A ++ B)) k C) la
-          ∙ over_seq o 0 (A ++ B) C (omega (arith, la, rest_fits, er)) ∙ ap (over o 0) (append_assoc A B C)
+    pub file_put : (o2 : Bytes) → room ≡ length o → length o1 ≡ length o → o2 ≡ put_mid end (length o1 - end) o1 (over (take (length o1 - end) (drop end o1)) 0 (psch_bytes (used_records F R p w')))
+        → o2 ≡ over o 0 (file_of (winning S) pointer s.core)
+    unfolding file_of
+    file_put o2 er lo e =
+        let A : Bytes = psin_of (data_of s.core) in
+        let B : Bytes = pmap_of (pointer % 4096) s.core.blocks in
+        let C : Bytes = psch_bytes (records_of (used_of (winning S) s.core)) in
+        let la : end ≡ 0 + length (A ++ B) = omega (arith, ee, length-append A B, psin_length (data_of s.core), pmap_length (pointer % 4096) s.core.blocks, f.holds.rep.blocks) in
+        e ∙ part_written o1 (psch_bytes (used_records F R p w')) end (omega (arith, rest_fits, er, lo))
+        ∙ ap₂ (λ (x : Bytes) (r : Records). over x end (psch_bytes r)) eo made ∙ ap (λ (k : ℕ). over (over o 0 (A ++ B)) k C) la
+        ∙ over_seq o 0 (A ++ B) C (omega (arith, la, rest_fits, er)) ∙ ap (over o 0) (append_assoc A B C)

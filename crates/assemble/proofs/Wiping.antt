@@ -78,11 +78,6 @@ module _ (R : Round) (n : ℕ) where
         let r : rooms (seven [] [] [] [] [] [] []) ≡ n = omega (arith, h.room) in
         a7 ∙ bare_zeros (32768 ∷ 16384 ∷ 16384 ∷ E ∷ E ∷ R.cap ∷ (n - stack_at R) ∷ []) ∙ ap zeros r
 
-    -- the four parts cleared
-    pub parts_wiped : (w w1 w2 w3 w4 : Bytes) → w1 ≡ rows_wiped w p.blocks p.rows → w2 ≡ names_wiped w1 R.entries p.structs p.enums
-        → w3 ≡ over w2 (items_at R) (zeros (p.end - items_at R)) → w4 ≡ over w3 (stack_at R) (zeros (p.top - stack_at R)) → w4 ≡ all_wiped R p w
-    parts_wiped w w1 w2 w3 w4 e1 e2 e3 e4 = rw (e4, e3, e2, e1)
-
     -- a work area in use, cleared
     pub wiped : (S : Schema) (w w' : Bytes) → InUse S R n p w → w' ≡ all_wiped R p w → w' ≡ zeros n
     wiped S w w' u q =

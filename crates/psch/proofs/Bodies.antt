@@ -2,18 +2,16 @@
 use Rattle.schema.specs.declared.kind.Kind.{Kind}
 use Rattle.schema.specs.declared.kind.Kind.TheVariants.{Structure, Enum}
 use Rattle.std.specs.Prelude.{Option, Some, None, unwrap_or, option_map}
-use Prim.Native.Nat.{ℕ, zero, suc, ◌+◌, ◌-◌, ◌*◌, ◌^◌, ◌≤◌, ◌<◌}
+use Prim.Native.Nat.{ℕ, zero, suc, ◌+◌, ◌-◌, ◌*◌, ◌≤◌, ◌<◌}
 use native.Mathlib.Omega.{arith}
 use mathlib.Core.Path.{◌≡◌, refl, sym, ◌∙◌, ap, ap₂, subst}
-use mathlib.Core.List.{[], ◌∷◌, ◌++◌, map, append_assoc, append-nil}
+use mathlib.Core.List.{[], ◌++◌, map, append_assoc, append-nil}
 use lib.ListN.{length, take, drop, length-append, length-drop}
 use lib.Seq.{take-add, drop-drop, length-take-le}
 use Rattle.numbers.specs.Words.{Bytes, read_at, bytes_of, words, over, Octets}
 use Rattle.numbers.proofs.Bytes.{octets_take, octets_drop, bytes_number, length_bytes}
 use Rattle.schema.specs.Psch.{member_at, members_at, entries_at, struct_here, enum_here}
 use Rattle.schema.specs.Index.{last_place}
-use Rattle.definitions.specs.Answers.{head_here}
-use Rattle.definitions.specs.declared.members.Head.{Head}
 use Rattle.schema.specs.Steps.{kind_number}
 use Rattle.schema.proofs.Places.{struct_count, enum_count}
 use Rattle.layout.specs.Assemble.{joined, member_bytes, struct_bytes, enum_bytes}
@@ -123,11 +121,6 @@ module _ (F : Bytes) (o : Octets F) where
 
 -- what `put_definition` wrote
 
-pub struct_least : (F : Bytes) (at len : ℕ) (k : Kind) → k ≡ Structure → len ≡ length (definition_at F k at) → 12 ≤ len
-struct_least F at len k q e =
-    let f : len ≡ length (definition_at F Structure at) = e ∙ ap (λ (b : Kind). length (definition_at F b at)) q in
-    omega (arith, f, struct_size F at)
-
 module _ (F : Bytes) (o : Octets F) (at len to : ℕ) where
   enum_put : Lies F Enum at → len ≡ length (definition_at F Enum at) → (b b1 : Bytes) → b1 ≡ over b to (cut F len at) → b1 ≡ over b to (definition_at F Enum at)
   enum_put l e b b1 e1 = e1 ∙ ap (over b to) (ap (λ (k : ℕ). cut F k at) (e ∙ enum_size_law F at) ∙ enum_cut F o at l)
@@ -154,27 +147,10 @@ module _ (F : Bytes) (o : Octets F) (at len to : ℕ) where
       → b1 ≡ over b to (cut F 8 at) → b2 ≡ over b1 (to + 8) (bytes_of 4 0) → b3 ≡ over b2 (to + 12) (cut F (len - 12) (at + 12)) → b3 ≡ over b to (definition_at F k at)
   struct_written k q l e b b1 b2 b3 h e1 e2 e3 = rw q (struct_put (rw q at l) (rw q at e) b b1 b2 b3 h e1 e2 e3)
 
--- what `definition_length` counted
-
-pub enum_measured : (F : Bytes) (k : Kind) (at n : ℕ) → k ≡ Enum → n ≡ read_at 3 F (at + 1) → n < 2 ^ 24 → (4 + 8 * n ≡ length (definition_at F k at)) × (4 + 8 * n < 2 ^ 28)
-enum_measured F k at n q e h = rw q (omega (arith, e, enum_size_law F at), omega (arith, h))
-
-pub struct_measured : (F : Bytes) (k : Kind) (at : ℕ) (h : Head) → k ≡ Structure → h ≡ head_here F at → h.count < 2 ^ 16 → (12 + 12 * h.count ≡ length (definition_at F k at)) × (12 + 12 * h.count < 2 ^ 28)
-struct_measured F k at h q e l = rw q (omega (arith, ap (λ (x : Head). x.count) e, struct_size F at), omega (arith, l))
-
 -- what a search says of a name's definition
 module _ (F : Bytes) (k : Kind) (name : ℕ) (r : Option ℕ) (e : r ≡ last_place F (kind_number k) name) where
   pub body_at : (place : ℕ) → r ≡ Some place → body_of F k name ≡ definition_at F k place
   body_at place q = ap (λ (o : Option ℕ). unwrap_or (option_map (definition_at F k) o) []) (sym e ∙ q)
-
-  pub no_body : r ≡ None → body_of F k name ≡ []
-  no_body q = ap (λ (o : Option ℕ). unwrap_or (option_map (definition_at F k) o) []) (sym e ∙ q)
-
-  pub body_measured : (place n : ℕ) → r ≡ Some place → (n ≡ length (definition_at F k place)) × (n < 2 ^ 28) → (n ≡ length (body_of F k name)) × (n < 2 ^ 28)
-  body_measured place n q m = (m.0 ∙ ap length (sym (body_at place q)), m.1)
-
-  pub none_measured : r ≡ None → (0 ≡ length (body_of F k name)) × (0 < 2 ^ 28)
-  none_measured q = (sym (ap length (no_body q)), omega arith)
 
   module _ (s : Stored F k name) where
     pub stored_lies : (place : ℕ) → r ≡ Some place → Lies F k place
@@ -187,10 +163,3 @@ module _ (F : Bytes) (k : Kind) (name : ℕ) (r : Option ℕ) (e : r ≡ last_pl
     stored_found q =
         let f : None ≡ Some s.place = sym q ∙ e ∙ s.found in
         let z : ◌≡◌ {A = ℕ} 0 1 = cc in omega arith
-
-  -- what `put_record` wrote
-  pub record_put : (place len to index : ℕ) (o o1 o2 : Bytes) → r ≡ Some place → len ≡ length (definition_at F k place) → o1 ≡ over o index (words (name ∷ to ∷ []))
-      → o2 ≡ over o1 to (definition_at F k place)
-      → (to + len ≡ to + length (body_of F k name)) × (o2 ≡ over (over o index (words (name ∷ to ∷ []))) to (body_of F k name))
-  record_put place len to index o o1 o2 q l e1 e2 =
-      (ap (λ (n : ℕ). to + n) (l ∙ ap length (sym (body_at place q))), e2 ∙ ap₂ (λ (x y : Bytes). over x to y) e1 (sym (body_at place q)))

@@ -1,20 +1,25 @@
 -- The loops over the used names: the lengths summed, and the index and the definitions written side by side. Assumes nothing.
-use Prim.Native.Nat.{ℕ, zero, suc, ◌+◌, ◌-◌, ◌*◌, ◌^◌, ◌≤◌, ◌<◌}
+use Prim.Native.Nat.{ℕ, zero, suc, ◌+◌, ◌-◌, ◌*◌, ◌/◌, ◌^◌, ◌≤◌, ◌<◌}
 use native.Mathlib.Omega.{arith}
 use mathlib.Core.Path.{◌≡◌, refl, sym, ◌∙◌, ap, ap₂, subst}
 use mathlib.Core.List.{List, [], ◌∷◌, ◌++◌, append_assoc}
-use lib.ListN.{length, take, drop, length-append, length-map, take-append-drop}
+use lib.ListN.{length, take, drop, length-append, length-map, length-drop, take-append-drop}
 use lib.Seq.{length-take-le}
 use borrow.Author.Tests.{lt-ltb, le-ltb}
 use Rattle.schema.specs.declared.kind.Kind.{Kind}
+use Rattle.schema.specs.declared.kind.Kind.TheVariants.{Structure, Enum}
 use Rattle.numbers.specs.Words.{Bytes, read_at, words, over}
 use Rattle.numbers.specs.Result.{Every}
 use Rattle.numbers.proofs.Bytes.{length_words}
+use Rattle.numbers.proofs.Parts.{read_part}
 use Rattle.layout.specs.Assemble.{joined, Records, index_of, bodies}
 use Rattle.layout.proofs.ReadDefs.{index_length}
+use Rattle.area.specs.declared.Round.{Round}
+use Rattle.area.specs.declared.Progress.{Progress}
 use Rattle.area.specs.Rows.{names_in}
+use Rattle.area.specs.Posts.{Safe}
 use Rattle.area.proofs.Over.{over_right, over_left, over_seq, length_over}
-use Rattle.psch.specs.Used.{body_of, records_for, size_of, counted_from, Stored, Counts}
+use Rattle.psch.specs.Used.{body_of, records_for, size_of, counted_from, names_at, names_count, names_of, Names, Stored, Counts}
 use Rattle.psch.proofs.Sections.{over_none}
 
 -- pastes
@@ -80,33 +85,61 @@ length_names w at (suc n) = ap suc (length_names w (at + 4) n)
 pub count_records : (F w : Bytes) (e : Kind) (at n : ℕ) → length (records_for F e (names_in w at n)) ≡ n
 count_records F w e at n = length-map (names_in w at n) (λ m. (m, body_of F e m)) ∙ length_names w at n
 
--- the loops: k of `count` names are done
-module _ (F w : Bytes) (e : Kind) (names count : ℕ) where
+-- names that stand in a part
+pub names_part : (w : Bytes) (from n at k : ℕ) → at + 4 * k ≤ n → names_in (take n (drop from w)) at k ≡ names_in w (from + at) k
+unfolding names_in
+names_part w from n at zero h = refl
+names_part w from n at (suc k) h =
+    let z : from + (at + 4) ≡ from + at + 4 = omega arith in
+    ap₂ (λ (x : ℕ) (ns : List ℕ). x ∷ ns) (read_part 4 w from n at (omega arith)) (names_part w from n (at + 4) k (omega arith) ∙ ap (λ (i : ℕ). names_in w i k) z)
+
+-- the part of the work area with the names of a kind
+pub part_named : (k : Kind) (R : Round) (p : Progress) (w : Bytes) (q : ℕ × ℕ) → Safe R (length w) p → q ≡ (names_at k R, names_count k p)
+    → Names k R p w (take (q.0 + 4 * q.1 - q.0) (drop q.0 w))
+part_named k R p w q h e = rw e (go k)
+  where
+    part : (at n : ℕ) → at + 4 * n ≤ length w → (length (take (at + 4 * n - at) (drop at w)) ≡ 4 * n) × (names_of (take (at + 4 * n - at) (drop at w)) ≡ names_in w at n)
+    part at n g =
+        let z : at + 4 * n - at ≡ 4 * n = omega arith in
+        let l : length (take (at + 4 * n - at) (drop at w)) ≡ 4 * n = length-take-le (at + 4 * n - at) (drop at w) (omega (arith, length-drop at w)) ∙ z in
+        let i : length (take (at + 4 * n - at) (drop at w)) / 4 ≡ n = omega (arith, l) in
+        let j : at + 0 ≡ at = omega arith in
+        (l, ap (names_in (take (at + 4 * n - at) (drop at w)) 0) i ∙ names_part w at (at + 4 * n - at) 0 n (omega arith) ∙ ap (λ (i : ℕ). names_in w i n) j)
+
+    go : (k : Kind) → Names k R p w (take (names_at k R + 4 * names_count k p - names_at k R) (drop (names_at k R) w))
+    go Structure = let t = part 65536 p.structs (omega (arith, h.structs, h.room)) in record { size = t.0; names = t.1 }
+    go Enum = let t = part (65536 + 4 * R.entries) p.enums (omega (arith, h.enums, h.room)) in record { size = t.0; names = t.1 }
+
+-- the loops: k names of those in w are done
+module _ (F w : Bytes) (e : Kind) where
+  abbrev count : ℕ
+  count = length w / 4
+
   abbrev left_of : ℕ → List ℕ
-  left_of k = names_in w (names + 4 * k) (count - k)
+  left_of k = names_in w (4 * k) (count - k)
 
   abbrev pub rest : ℕ → Records
   rest k = records_for F e (left_of k)
 
   abbrev pub all : Records
-  all = records_for F e (names_in w names count)
+  all = records_for F e (names_of w)
 
-  names_on : (k : ℕ) → k < count → left_of k ≡ read_at 4 w (names + 4 * k) ∷ left_of (k + 1)
+  names_on : (k : ℕ) → k < count → left_of k ≡ read_at 4 w (4 * k) ∷ left_of (k + 1)
   unfolding names_in
   names_on k h =
       let a : count - k ≡ suc (count - (k + 1)) = omega arith in
-      let b : names + 4 * k + 4 ≡ names + 4 * (k + 1) = omega arith in
-      ap (λ (n : ℕ). names_in w (names + 4 * k) n) a ∙ ap (λ (n : ℕ). read_at 4 w (names + 4 * k) ∷ names_in w n (count - (k + 1))) b
+      let b : 4 * k + 4 ≡ 4 * (k + 1) = omega arith in
+      ap (names_in w (4 * k)) a ∙ ap (λ (n : ℕ). read_at 4 w (4 * k) ∷ names_in w n (count - (k + 1))) b
 
   names_done : (k : ℕ) → count ≤ k → left_of k ≡ []
   unfolding names_in
-  names_done k h = let a : count - k ≡ 0 = omega arith in ap (λ (n : ℕ). names_in w (names + 4 * k) n) a
+  names_done k h = let a : count - k ≡ 0 = omega arith in ap (names_in w (4 * k)) a
 
   count_left : (k : ℕ) → length (rest k) ≡ count - k
-  count_left k = count_records F w e (names + 4 * k) (count - k)
+  count_left k = count_records F w e (4 * k) (count - k)
 
-  names_first : (k : ℕ) → k ≡ 0 → left_of k ≡ names_in w names count
-  names_first k q = let a : names + 4 * k ≡ names = omega arith in let b : count - k ≡ count = omega arith in ap₂ (λ (x y : ℕ). names_in w x y) a b
+  names_first : (k : ℕ) → k ≡ 0 → left_of k ≡ names_of w
+  names_first k q = let a : 4 * k ≡ 0 = omega arith in let b : count - k ≡ count = omega arith in ap₂ (λ (x y : ℕ). names_in w x y) a b
 
   -- the sum
 
@@ -114,14 +147,14 @@ module _ (F w : Bytes) (e : Kind) (names count : ℕ) where
     pub few : k ≤ count
     pub low : sum < 2 ^ 48
     pub same : sum + size_of (rest k) ≡ from + size_of all
-    pub counts : counted_from F e sum (left_of k) ≡ counted_from F e from (names_in w names count)
+    pub counts : counted_from F e sum (left_of k) ≡ counted_from F e from (names_of w)
 
   -- a name is counted, and none is any more
-  counted_on : (sum k n name : ℕ) → k < count → sum ≤ 16777216 → name ≡ read_at 4 w (names + 4 * k) → n ≡ length (body_of F e name)
+  counted_on : (sum k n name : ℕ) → k < count → sum ≤ 16777216 → name ≡ read_at 4 w (4 * k) → n ≡ length (body_of F e name)
       → counted_from F e (sum + (8 + n)) (left_of (k + 1)) ≡ counted_from F e sum (left_of k)
   unfolding counted_from
   counted_on sum k n name h l q m =
-      let z : n ≡ length (body_of F e (read_at 4 w (names + 4 * k))) = m ∙ ap (λ (x : ℕ). length (body_of F e x)) q in
+      let z : n ≡ length (body_of F e (read_at 4 w (4 * k))) = m ∙ ap (λ (x : ℕ). length (body_of F e x)) q in
       sym (ap (counted_from F e sum) (names_on k h) ∙ rw (le-ltb 16777216 sum l) (ap (λ (x : ℕ). counted_from F e (sum + (8 + x)) (left_of (k + 1))) (sym z)))
 
   counted_stops : (sum : ℕ) (ns : List ℕ) → 16777216 < sum → counted_from F e sum ns ≡ sum
@@ -138,16 +171,16 @@ module _ (F w : Bytes) (e : Kind) (names count : ℕ) where
         counts = ap (counted_from F e from) (names_first 0 refl);
       }
 
-  pub sum_turn : (from sum k n name : ℕ) → Summing from sum k → k < count → sum ≤ 16777216 → name ≡ read_at 4 w (names + 4 * k) → (n ≡ length (body_of F e name)) × (n < 2 ^ 28)
+  pub sum_turn : (from sum k n name : ℕ) → Summing from sum k → k < count → sum ≤ 16777216 → name ≡ read_at 4 w (4 * k) → (n ≡ length (body_of F e name)) × (n < 2 ^ 28)
       → Summing from (sum + (8 + n)) (k + 1)
   sum_turn from sum k n name s h l q m =
       let z : size_of (rest k) ≡ 8 + n + size_of (rest (k + 1)) =
-      ap (λ (ns : List ℕ). size_of (records_for F e ns)) (names_on k h) ∙ size_cons (read_at 4 w (names + 4 * k), body_of F e (read_at 4 w (names + 4 * k))) (rest (k + 1))
+      ap (λ (ns : List ℕ). size_of (records_for F e ns)) (names_on k h) ∙ size_cons (read_at 4 w (4 * k), body_of F e (read_at 4 w (4 * k))) (rest (k + 1))
       ∙ ap (λ (x : ℕ). 8 + x + size_of (rest (k + 1))) (ap (λ (x : ℕ). length (body_of F e x)) (sym q) ∙ sym m.0) in
       record { few = omega arith; low = omega (arith, l, m.1); same = omega (arith, s.same, z); counts = counted_on sum k n name h l q m.0 ∙ s.counts }
 
   abbrev Summed : ℕ → ℕ → Type 0
-  Summed from sum = Counts sum (from + size_of all) × (sum < 2 ^ 48) × (sum ≡ counted_from F e from (names_in w names count))
+  Summed from sum = Counts sum (from + size_of all) × (sum < 2 ^ 48) × (sum ≡ counted_from F e from (names_of w))
 
   pub sum_long : (from sum k : ℕ) → Summing from sum k → 16777216 < sum → Summed from sum
   sum_long from sum k s h =
@@ -171,9 +204,9 @@ module _ (F w : Bytes) (e : Kind) (names count : ℕ) where
       pub behind : to ≤ at
       pub same : over (over o (index + 8 * k) (index_of at (rest k))) at (bodies (rest k)) ≡ over (over o₀ index (index_of to all)) to (bodies all)
 
-    pub put_begin : Every (Stored F e) (names_in w names count) → Putting to 0 o₀
+    pub put_begin : Every (Stored F e) (names_of w) → Putting to 0 o₀
     put_begin s =
-        let f : left_of 0 ≡ names_in w names count = names_first 0 refl in
+        let f : left_of 0 ≡ names_of w = names_first 0 refl in
         let z : index + 8 * 0 ≡ index = omega arith in
         record {
           few = omega arith;
@@ -194,7 +227,7 @@ module _ (F w : Bytes) (e : Kind) (names count : ℕ) where
           ap (λ (ns : List ℕ). over (over o (index + 8 * k) (index_of at (records_for F e ns))) at (bodies (records_for F e ns))) (sym f) ∙ p.same in
           (omega (arith, z), sym (over_none (over o (index + 8 * k) []) at ∙ over_none o (index + 8 * k)) ∙ s)
 
-      module _ (h : k < count) (name : ℕ) (q : name ≡ read_at 4 w (names + 4 * k)) where
+      module _ (h : k < count) (name : ℕ) (q : name ≡ read_at 4 w (4 * k)) where
         on : left_of k ≡ name ∷ left_of (k + 1)
         on = names_on k h ∙ ap (λ (n : ℕ). n ∷ left_of (k + 1)) (sym q)
 
@@ -236,10 +269,10 @@ module _ (F w : Bytes) (e : Kind) (names count : ℕ) where
             }
 
 -- the same, with the words of the contract
-pub long_counts : (F w : Bytes) (e : Kind) (names count from sum k : ℕ) → Summing F w e names count from sum k → 16777216 < sum
-    → Counts sum (from + size_of (records_for F e (names_in w names count)))
-long_counts F w e names count from sum k s h = (sum_long F w e names count from sum k s h).0
+pub long_counts : (F w : Bytes) (e : Kind) (from sum k : ℕ) → Summing F w e from sum k → 16777216 < sum
+    → Counts sum (from + size_of (records_for F e (names_of w)))
+long_counts F w e from sum k s h = (sum_long F w e from sum k s h).0
 
-pub long_same : (F w : Bytes) (e : Kind) (names count from sum k : ℕ) → Summing F w e names count from sum k → 16777216 < sum
-    → sum ≡ counted_from F e from (names_in w names count)
-long_same F w e names count from sum k s h = (sum_long F w e names count from sum k s h).2
+pub long_same : (F w : Bytes) (e : Kind) (from sum k : ℕ) → Summing F w e from sum k → 16777216 < sum
+    → sum ≡ counted_from F e from (names_of w)
+long_same F w e from sum k s h = (sum_long F w e from sum k s h).2

@@ -4,6 +4,7 @@ use native.Mathlib.Omega.{arith}
 use mathlib.Core.Path.{◌≡◌, refl, sym, ◌∙◌, ap, ap₂}
 use mathlib.Core.List.{[], ◌∷◌, ◌++◌}
 use lib.ListN.{length, length-append}
+use Rattle.schema.specs.declared.kind.Kind.{Kind}
 use Rattle.schema.specs.declared.kind.Kind.TheVariants.{Structure, Enum}
 use Rattle.numbers.specs.Words.{Bytes, bytes_of, words, over}
 use Rattle.numbers.proofs.Bytes.{length_words}
@@ -12,9 +13,8 @@ use Rattle.layout.specs.Assemble.{Records, index_of, psch_bytes, bodies}
 use Rattle.layout.proofs.ReadDefs.{index_length, psch_length}
 use Rattle.area.specs.declared.Round.{Round}
 use Rattle.area.specs.declared.Progress.{Progress}
-use Rattle.area.specs.Rows.{names_in}
 use Rattle.area.proofs.Over.{over_seq, length_over, words_one, words_behind}
-use Rattle.psch.specs.Used.{records_for, used_records}
+use Rattle.psch.specs.Used.{records_for, used_names, used_records}
 use Rattle.psch.proofs.Listing.{over_apart, over_both, bodies_append, index_append, count_records}
 
 module _ (rs qs : Records) where
@@ -63,24 +63,21 @@ module _ (rs qs : Records) where
       ∙ ap (λ (k : ℕ). over (over o 0 H) k X) (sym z) ∙ over_seq o 0 H X (omega (arith, lh, h, ee, em, et)) ∙ ap (over o 0) (psch_is n to mid end en et em ee)
 
 -- the records by the names in the work area
-abbrev pub struct_records : Bytes → Progress → Bytes → Records
-struct_records F p w = records_for F Structure (names_in w 65536 p.structs)
-
-abbrev pub enum_records : Bytes → Round → Progress → Bytes → Records
-enum_records F R p w = records_for F Enum (names_in w (65536 + 4 * R.entries) p.enums)
+abbrev pub kind_records : Kind → Bytes → Round → Progress → Bytes → Records
+kind_records k F R p w = records_for F k (used_names k R p w)
 
 module _ (F : Bytes) (R : Round) (p : Progress) (w : Bytes) where
-  pub used_count : length (struct_records F p w) + length (enum_records F R p w) ≡ p.structs + p.enums
+  pub used_count : length (kind_records Structure F R p w) + length (kind_records Enum F R p w) ≡ p.structs + p.enums
   used_count = omega (arith, count_records F w Structure 65536 p.structs, count_records F w Enum (65536 + 4 * R.entries) p.enums)
 
-  pub used_size : length (psch_bytes (used_records F R p w)) ≡ 12 + 8 * (p.structs + p.enums) + length (bodies (struct_records F p w)) + length (bodies (enum_records F R p w))
-  used_size = omega (arith, psch_size (struct_records F p w) (enum_records F R p w), used_count)
+  pub used_size : length (psch_bytes (used_records F R p w)) ≡ 12 + 8 * (p.structs + p.enums) + length (bodies (kind_records Structure F R p w)) + length (bodies (kind_records Enum F R p w))
+  used_size = omega (arith, psch_size (kind_records Structure F R p w) (kind_records Enum F R p w), used_count)
 
   pub used_put : (mid end : ℕ) (o o1 o2 o3 o4 : Bytes) → length (psch_bytes (used_records F R p w)) ≤ length o
-      → (mid ≡ 12 + 8 * (p.structs + p.enums) + length (bodies (struct_records F p w)))
-      × (o1 ≡ over (over o 12 (index_of (12 + 8 * (p.structs + p.enums)) (struct_records F p w))) (12 + 8 * (p.structs + p.enums)) (bodies (struct_records F p w)))
-      → (end ≡ mid + length (bodies (enum_records F R p w))) × (o2 ≡ over (over o1 (12 + 8 * p.structs) (index_of mid (enum_records F R p w))) mid (bodies (enum_records F R p w)))
+      → (mid ≡ 12 + 8 * (p.structs + p.enums) + length (bodies (kind_records Structure F R p w)))
+      × (o1 ≡ over (over o 12 (index_of (12 + 8 * (p.structs + p.enums)) (kind_records Structure F R p w))) (12 + 8 * (p.structs + p.enums)) (bodies (kind_records Structure F R p w)))
+      → (end ≡ mid + length (bodies (kind_records Enum F R p w))) × (o2 ≡ over (over o1 (12 + 8 * p.structs) (index_of mid (kind_records Enum F R p w))) mid (bodies (kind_records Enum F R p w)))
       → o3 ≡ over o2 0 (words (PSCH ∷ end ∷ [])) → o4 ≡ over o3 8 (bytes_of 4 (p.structs + p.enums)) → o4 ≡ over o 0 (psch_bytes (used_records F R p w))
   used_put mid end o o1 o2 o3 o4 h a b e3 e4 =
-      schema_put (struct_records F p w) (enum_records F R p w) (p.structs + p.enums) (12 + 8 * (p.structs + p.enums)) mid end (12 + 8 * p.structs) o o1 o2 o3 o4
+      schema_put (kind_records Structure F R p w) (kind_records Enum F R p w) (p.structs + p.enums) (12 + 8 * (p.structs + p.enums)) mid end (12 + 8 * p.structs) o o1 o2 o3 o4
       used_count refl a.0 b.0 (omega (arith, count_records F w Structure 65536 p.structs)) (omega (arith, h, used_size, a.0, b.0)) a.1 b.1 e3 e4

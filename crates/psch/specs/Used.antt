@@ -1,5 +1,5 @@
 -- The used definitions, from the schema file to PSCH.
-use Rattle.std.specs.Prelude.{ℕ, ◌+◌, ◌*◌, ◌≤◌, ◌<◌, ◌≡◌, cond, List, [], ◌∷◌, map, ◌++◌, ltb, length, Some, unwrap_or, option_map}
+use Rattle.std.specs.Prelude.{ℕ, ◌+◌, ◌*◌, ◌/◌, ◌≤◌, ◌<◌, ◌≡◌, cond, List, [], ◌∷◌, map, ◌++◌, ltb, length, Some, unwrap_or, option_map}
 use Rattle.numbers.specs.Words.{Bytes, read_at}
 use Rattle.numbers.specs.Result.{Every}
 use Rattle.schema.specs.Psch.{struct_here, enum_here, Within}
@@ -45,14 +45,37 @@ pub record Stored (F : Bytes) (k : Kind) (name : ℕ) : Type 0 where
   pub found : last_place F (kind_number k) name ≡ Some place
   pub lies : Lies F k place
 
+-- where the used names of a kind begin in the work area
+abbrev pub names_at : Kind → Round → ℕ
+names_at Structure R = 65536
+names_at Enum R = 65536 + 4 * R.entries
+
+-- how many there are
+abbrev pub names_count : Kind → Progress → ℕ
+names_count Structure p = p.structs
+names_count Enum p = p.enums
+
+-- they themselves
+abbrev pub used_names : Kind → Round → Progress → Bytes → List ℕ
+used_names k R p w = names_in w (names_at k R) (names_count k p)
+
+-- the names in bytes that hold nothing else
+abbrev pub names_of : Bytes → List ℕ
+names_of b = names_in b 0 (length b / 4)
+
+-- the bytes b hold the used names of a kind
+pub record Names (k : Kind) (R : Round) (p : Progress) (w b : Bytes) : Type 0 where
+  pub size : length b ≡ 4 * names_count k p
+  pub names : names_of b ≡ used_names k R p w
+
 -- "used structures, used enums", by the names in the work area
 abbrev pub used_records : Bytes → Round → Progress → Bytes → Records
-used_records F R p w = records_for F Structure (names_in w 65536 p.structs) ++ records_for F Enum (names_in w (65536 + 4 * R.entries) p.enums)
+used_records F R p w = records_for F Structure (used_names Structure R p w) ++ records_for F Enum (used_names Enum R p w)
 
 -- each of the names stands for a definition that lies in the schema file
 pub record AllStored (F : Bytes) (R : Round) (p : Progress) (w : Bytes) : Type 0 where
-  pub structs : Every (Stored F Structure) (names_in w 65536 p.structs)
-  pub enums : Every (Stored F Enum) (names_in w (65536 + 4 * R.entries) p.enums)
+  pub structs : Every (Stored F Structure) (used_names Structure R p w)
+  pub enums : Every (Stored F Enum) (used_names Enum R p w)
 
 -- a length that was counted up to "16,777,216" only, where 13 is certain
 pub record Counts (r x : ℕ) : Type 0 where

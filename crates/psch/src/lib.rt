@@ -1,15 +1,13 @@
 // PSCH: the used definitions, copied from the schema file.
 #![tactic(auto)]
 
-ghost use Rattle.std.specs.Prelude.{◌≡◌, [], ◌∷◌, ◌+◌, ◌*◌, ◌^◌, ◌≤◌, ◌<◌, length};
+ghost use Rattle.std.specs.Prelude.{◌≡◌, [], ◌∷◌, ◌+◌, ◌*◌, ◌/◌, ◌^◌, ◌≤◌, ◌<◌, length};
 ghost use Rattle.numbers.specs.Words.{words, over};
 ghost use Rattle.numbers.specs.Result.{Every};
 ghost use Rattle.layout.specs.Assemble.{index_of, psch_bytes, bodies};
-ghost use Rattle.area.specs.Rows.{names_in};
-ghost use Rattle.area.specs.Posts.{Safe};
-ghost use Rattle.psch.specs.Used.{definition_at, body_of, records_for, size_of, counted_from, used_records, Lies, Stored, AllStored, Counts};
+ghost use Rattle.psch.specs.Used.{definition_at, body_of, records_for, size_of, counted_from, used_records, names_of, Names, Lies, Stored, AllStored, Counts};
 
-use area::{Progress, Round, write_two};
+use area::{Area, write_two};
 use definitions::lookup::find;
 use definitions::members::{entry_count, read_head};
 use numbers::words::{read, write, write_u32};
@@ -19,6 +17,7 @@ use section::{copy_part, head};
 pub mod section;
 
 // How many bytes the definition at a place has.
+#[tactic(auto, using(crate::proofs::Bodies::enum_size_law, crate::proofs::Bodies::struct_size))]
 fn definition_length(schema: &[u8], kind: Kind, place: usize) -> usize
     ensures { (result ≡ length (definition_at schema.now kind place)) × (result < 2 ^ 28) }
 {
@@ -41,32 +40,38 @@ fn body_length(schema: &[u8], kind: Kind, name: u32) -> usize
     }
 }
 
-// What the definitions of the `count` names at `names` take in PSCH, added to `from`; no further than to 16,777,216.
-#[tactic(auto, using(crate::proofs::Listing::long_counts, crate::proofs::Listing::long_same))]
-pub fn definitions_length(
-    schema: &[u8],
-    work: &[u8],
-    names: usize,
-    count: usize,
-    kind: Kind,
-    from: usize,
-) -> usize
-    requires { (names + 4 * count ≤ length work.now) × (from < 2 ^ 48) }
-    ensures { Counts result (from + size_of (records_for schema.now kind (names_in work.now names count))) × (result < 2 ^ 48)
-        × (result ≡ counted_from schema.now kind from (names_in work.now names count)) }
+// The used names of a kind, 4 bytes each, as they stand in the work area.
+#[tactic(auto, using(crate::proofs::Listing::part_named))]
+pub fn used<'a>(area: &'a Area<'_>, kind: Kind) -> &'a [u8]
+    ensures { Names kind area.now.round area.now.progress area.now.bytes.now result.now }
+{
+    let (at, count) = match kind {
+        Kind::Structure => (65536, area.progress.structs),
+        Kind::Enum => (65536 + 4 * area.round.entries, area.progress.enums),
+    };
+    &area.bytes[at..at + 4 * count]
+}
+
+// What the definitions of the names take in PSCH, added to `from`; no further than to 16,777,216.
+#[tactic(auto, using(crate::proofs::Listing::sum_begin, crate::proofs::Listing::long_counts, crate::proofs::Listing::long_same))]
+pub fn definitions_length(schema: &[u8], names: &[u8], kind: Kind, from: usize) -> usize
+    requires { from < 2 ^ 48 }
+    ensures { Counts result (from + size_of (records_for schema.now kind (names_of names.now))) × (result < 2 ^ 48)
+        × (result ≡ counted_from schema.now kind from (names_of names.now)) }
 {
     let mut sum = from;
-    for k in 0..count {
+    for k in 0..names.len() / 4 {
         if 16777216 < sum {
             return sum;
         }
-        let name = read::<u32>(work, names + 4 * k);
+        let name = read::<u32>(names, 4 * k);
         sum += 8 + body_length(schema, kind, name);
     }
     sum
 }
 
 // The definition at a place, of `len` bytes: its members begin 12 bytes behind its start, where 4 are zero.
+#[tactic(auto, using(crate::proofs::Bodies::struct_size))]
 fn put_definition(schema: &[u8], kind: Kind, place: usize, len: usize, out: &mut [u8], to: usize)
     requires lies { Lies schema.now kind place }
     requires len_value { (len ≡ length (definition_at schema.now kind place)) × (to + len ≤ length out.old) }
@@ -83,6 +88,7 @@ fn put_definition(schema: &[u8], kind: Kind, place: usize, len: usize, out: &mut
 }
 
 // A name's index entry at `index` and its definition at `to`; where the definition ends.
+#[tactic(auto, using(crate::proofs::Bodies::body_at, crate::proofs::Bodies::stored_lies, crate::proofs::Bodies::stored_found))]
 fn put_record(
     schema: &[u8],
     kind: Kind,
@@ -107,49 +113,54 @@ fn put_record(
     }
 }
 
-// The index entries from `index` on and the definitions from `to` on, of the `count` names at `names`; where the last definition ends.
+// The index entries from `index` on and the definitions from `to` on, of the names; where the last definition ends.
+#[tactic(auto, using(crate::proofs::Listing::put_begin, crate::proofs::Listing::put_last))]
 fn put_records(
     schema: &[u8],
-    work: &[u8],
-    names: usize,
-    count: usize,
+    names: &[u8],
     kind: Kind,
     out: &mut [u8],
     index: usize,
     to: usize,
 ) -> usize
-    requires count_in_bounds { (names + 4 * count ≤ length work.now) × (index + 8 * count ≤ to) }
-    requires every { Every (Stored schema.now kind) (names_in work.now names count) }
-    requires count_in_bounds_2 { (to + length (bodies (records_for schema.now kind (names_in work.now names count))) ≤ length out.old)
-        × (to + length (bodies (records_for schema.now kind (names_in work.now names count))) < 2 ^ 32) }
-    ensures { (result ≡ to + length (bodies (records_for schema.now kind (names_in work.now names count))))
-        × (out.new ≡ over (over out.old index (index_of to (records_for schema.now kind (names_in work.now names count))))
-        to (bodies (records_for schema.now kind (names_in work.now names count)))) }
+    requires room { index + 8 * (length names.now / 4) ≤ to }
+    requires every { Every (Stored schema.now kind) (names_of names.now) }
+    requires ends { (to + length (bodies (records_for schema.now kind (names_of names.now))) ≤ length out.old)
+        × (to + length (bodies (records_for schema.now kind (names_of names.now))) < 2 ^ 32) }
+    ensures { (result ≡ to + length (bodies (records_for schema.now kind (names_of names.now))))
+        × (out.new ≡ over (over out.old index (index_of to (records_for schema.now kind (names_of names.now))))
+        to (bodies (records_for schema.now kind (names_of names.now)))) }
 {
     let mut at = to;
-    for k in 0..count {
-        let name = read::<u32>(work, names + 4 * k);
+    for k in 0..names.len() / 4 {
+        let name = read::<u32>(names, 4 * k);
         at = put_record(schema, kind, name, out, index + 8 * k, at);
     }
     at
 }
 
 // PSCH, from the first byte of `out` on: the head is written last, when the size is known.
-pub fn put_schema(schema: &[u8], work: &[u8], round: Round, p: Progress, out: &mut [u8])
-    requires safe { Safe round (length work.now) p }
-    requires all_stored { AllStored schema.now round p work.now }
-    requires work_in_bounds { (length (psch_bytes (used_records schema.now round p work.now)) ≤ length out.old) × (length (psch_bytes (used_records schema.now round p work.now)) < 256 ^ 4) }
-    ensures { out.new ≡ over out.old 0 (psch_bytes (used_records schema.now round p work.now)) }
+#[tactic(auto, using(crate::proofs::Schemas::used_size))]
+pub fn put_schema(schema: &[u8], area: &Area<'_>, out: &mut [u8])
+    requires all_stored { AllStored schema.now area.now.round area.now.progress area.now.bytes.now }
+    requires size { (length (psch_bytes (used_records schema.now area.now.round area.now.progress area.now.bytes.now)) ≤ length out.old)
+        × (length (psch_bytes (used_records schema.now area.now.round area.now.progress area.now.bytes.now)) < 256 ^ 4) }
+    ensures { out.new ≡ over out.old 0 (psch_bytes (used_records schema.now area.now.round area.now.progress area.now.bytes.now)) }
 {
-    let structs = p.structs;
-    let n = structs + p.enums;
+    let structs = area.progress.structs;
+    let n = structs + area.progress.enums;
     let to = 12 + 8 * n;
-    let mid = put_records(schema, work, 65536, structs, Kind::Structure, out, 12, to);
+    let mid = put_records(
+        schema,
+        used(area, Kind::Structure),
+        Kind::Structure,
+        out,
+        12,
+        to,
+    );
     let end = put_records(
         schema,
-        work,
-        65536 + 4 * round.entries,
-        p.enums,
+        used(area, Kind::Enum),
         Kind::Enum,
         out,
         12 + 8 * structs,

@@ -13,6 +13,7 @@ pub fn copy_part(s: &[u8], from: usize, n: usize, out: &mut [u8], to: usize)
 }
 
 // A section's name, as b"PSIN", then its length.
+#[tactic(auto, using(crate::proofs::Sections::name_first))]
 pub fn head(out: &mut [u8], at: usize, name: &[u8; 4], size: u32)
     requires { Octets (name_bytes name.now) × (at + 8 ≤ length out.old) }
     ensures { out.new ≡ over out.old at (words (number 0 (name_bytes name.now) ∷ size ∷ [])) }

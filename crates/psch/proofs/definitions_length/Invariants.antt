@@ -3,4 +3,4 @@ use Rattle.psch.proofs.Listing.{Summing}
 use Rattle.psch.proofs.definitions_length.Given as goal
 
 abbrev pub invariant-loop-k : goal.invariant-loop-k
-invariant-loop-k l = Summing l.schema l.work l.kind l.names l.count l.from l.sum l.k
+invariant-loop-k l = Summing l.schema l.names l.kind l.from l.sum l.k

@@ -1,7 +1,6 @@
 -- `psch::put_definition` meets its contract. Assumes nothing.
-use native.Mathlib.Omega.{arith}
 use Rattle.numbers.proofs.Bytes.{octets}
-use Rattle.psch.proofs.Bodies.{enum_written, struct_least, struct_written}
+use Rattle.psch.proofs.Bodies.{enum_written, struct_written}
 use Rattle.psch.proofs.put_definition.Goals as goal
 
 pub returns-in-Enum : goal.returns-in-Enum
@@ -9,26 +8,6 @@ returns-in-Enum c =
     let a = c.args in
     enum_written a.schema.now (octets a.schema.now (λ i. (c.shared_slice_known-1.given i).fits)) a.place a.len a.to a.kind c.in-Enum.is c.requires.lies c.requires.len_value.0
     a.out.now c.copy_part-in-Enum.new.out c.copy_part-in-Enum.ensures
-
-pub copy_part-requires : goal.copy_part-requires
-copy_part-requires c =
-    let a = c.args in
-    omega (arith, struct_least a.schema.now a.place a.len a.kind c.in-Structure.is c.requires.len_value.0, c.requires.len_value.1)
-
-pub write-requires : goal.write-requires
-write-requires c =
-    let a = c.args in
-    (omega arith, omega (arith, struct_least a.schema.now a.place a.len a.kind c.in-Structure.is c.requires.len_value.0, c.requires.len_value.1, c.copy_part.auto.out))
-
-pub overflow_sub-len : goal.overflow_sub-len
-overflow_sub-len c =
-    let a = c.args in
-    struct_least a.schema.now a.place a.len a.kind c.in-Structure.is c.requires.len_value.0
-
-pub copy_part-requires-in-Structure : goal.copy_part-requires-in-Structure
-copy_part-requires-in-Structure c =
-    let a = c.args in
-    omega (arith, struct_least a.schema.now a.place a.len a.kind c.in-Structure.is c.requires.len_value.0, c.requires.len_value.1, c.copy_part.auto.out, c.write.auto.s)
 
 pub returns-in-Structure : goal.returns-in-Structure
 returns-in-Structure c =

@@ -3,4 +3,4 @@ use Rattle.psch.proofs.Listing.{Putting}
 use Rattle.psch.proofs.put_records.Given as goal
 
 abbrev pub invariant-loop-k : goal.invariant-loop-k
-invariant-loop-k l = Putting l.schema l.work l.kind l.names l.count l.initial.out l.index l.to l.at l.k l.out
+invariant-loop-k l = Putting l.schema l.names l.kind l.initial.out l.index l.to l.at l.k l.out

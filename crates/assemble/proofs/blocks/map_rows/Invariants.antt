@@ -11,4 +11,4 @@ use Rattle.assemble.proofs.blocks.map_rows.Given as goal
 
 abbrev pub invariant-loop-k : goal.invariant-loop-k
 invariant-loop-k l = (length l.out ≡ length l.initial.out)
-    × ((bs : List Block) → Rows l.work l.rows l.count bs → Going block_rows bs l.initial.out l.at l.count l.k l.place (l.rows + 8 * l.k) (l.at + 16 * l.k) l.work l.out)
+    × ((bs : List Block) → Rows l.rows bs → Going block_rows bs l.rows l.initial.out l.at l.k l.place (l.at + 16 * l.k) l.out)

@@ -1,4 +1,9 @@
 -- `assemble::blocks::write_map` meets its contract. Assumes nothing.
+use Prim.Native.Nat.{◌/◌}
+use native.Mathlib.Omega.{arith}
+use mathlib.Core.Path.{ap}
+use lib.ListN.{length}
+use Rattle.area.proofs.Spots.{length_rows_of}
 use Rattle.assemble.proofs.Heads.{pmap_whole}
 use Rattle.assemble.proofs.blocks.write_map.Goals as goal
 
@@ -6,6 +11,6 @@ pub returns : goal.returns
 returns c =
     λ bs r.
     let a = c.args in
-    let p = c.requires.count_in_bounds in
-    pmap_whole a.out.now c.head.new.out c.write_two.new.s c.map_rows.new.out a.at a.count a.root bs p.0 p.1 r.many
+    let p = c.requires.room in
+    pmap_whole a.out.now c.head.new.out c.write_two.new.s c.map_rows.new.out a.at (length a.rows.now / 8) a.root bs p.0 p.1 (omega (arith, ap length r.is, length_rows_of bs))
     c.head.ensures c.write_two.ensures (c.map_rows.ensures bs r)

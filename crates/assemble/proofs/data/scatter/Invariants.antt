@@ -8,7 +8,7 @@ use Rattle.assemble.proofs.Turns.{Going}
 use Rattle.assemble.proofs.data.scatter.Given as goal
 
 abbrev pub invariant-loop-pos : goal.invariant-loop-pos
-invariant-loop-pos l = (length l.out ≡ length l.initial.out) × ((c : Core) → Ready l.work l.from l.end l.table (length l.initial.out) c → Going c l.work l.initial.out l.end l.pos l.out)
+invariant-loop-pos l = (length l.out ≡ length l.initial.out) × ((c : Core) → Ready l.items l.table (length l.initial.out) c → Going c l.items l.initial.out l.pos l.out)
 
 abbrev pub decreases-loop-pos : goal.decreases-loop-pos
-decreases-loop-pos l = l.end - l.pos
+decreases-loop-pos l = length l.items - l.pos
