@@ -11,6 +11,9 @@ use lib.Seq.{length-take-le, get_or-take}
 use borrow.Author.Tests.{eq-eqb, ne_eqb, eqb-true, eqb-false, lt-ltb, le-ltb, ltb-true, ltb-false}
 use Rattle.numbers.specs.Words.{Bytes}
 use Rattle.numbers.specs.Result.{refused}
+use Rattle.numbers.specs.Refusal.{number_of}
+use Rattle.numbers.specs.declared.refusal.Refusal.{Refusal}
+use Rattle.numbers.specs.declared.refusal.Refusal.TheVariants.{RemarkCount}
 use Rattle.layout.specs.State.{Remark, same_remark, remarked, noted, thinned, thin}
 use Rattle.layout.specs.Build.{zero_remark, build}
 use Rattle.area.specs.Rows.{rows_in}
@@ -22,7 +25,7 @@ use Rattle.rounds.proofs.Thinning.{noted_out, longer, absent}
 use Rattle.rounds.proofs.Standings.{refuses_full, remains}
 
 -- turns
-pub turns_seeking : (room : ℕ) (st : Stage) → st.last ≡ false → turns room st ≡ bound room (st.job.p.rows - st.row) (st.job.p.seen - st.job.p.next) st.at
+pub turns_seeking : (room : ℕ) (st : Stage) → st.last ≡ false → turns room st ≡ bound room (st.job.progress.rows - st.row) (st.job.progress.seen - st.job.progress.next) st.at
 unfolding turns
 turns_seeking room st e = rw e refl
 
@@ -36,7 +39,7 @@ module _ (room : ℕ) (st : Stage) (k : ℕ) where
   unfolding sought_at
   sought_before h = rw (lt-ltb k st.base h) refl
 
-  pub sought_full : (r : Stage) → r ≡ refusal_of st.job 14 → st.base ≤ k → st.count ≡ room → r ≡ sought_at room st k
+  pub sought_full : (r : Stage) → r ≡ refusal_of st.job RemarkCount → st.base ≤ k → st.count ≡ room → r ≡ sought_at room st k
   unfolding sought_at
   sought_full r e h q = rw (le-ltb k st.base h, eq-eqb st.count room q) e
 
@@ -45,14 +48,14 @@ module _ (room : ℕ) (st : Stage) (k : ℕ) where
   sought_behind h q = rw (le-ltb k st.base h, ne_eqb st.count room q) refl
 
 -- the row is the next to be merged
-pub some_left : (w : Bytes) (st : Stage) (zs : List Remark) (es : List Remark) → st.row < st.job.p.rows → Left es w st st.row zs
-    → thinned (noted (row_of w st.row) (take st.count zs)) (rows_in w (32768 + 16 * (st.row + 1)) (st.job.p.rows - (st.row + 1)) ++ drop st.job.p.next es) ≡ thin es
+pub some_left : (w : Bytes) (st : Stage) (zs : List Remark) (es : List Remark) → st.row < st.job.progress.rows → Left es w st st.row zs
+    → thinned (noted (row_of w st.row) (take st.count zs)) (rows_in w (32768 + 16 * (st.row + 1)) (st.job.progress.rows - (st.row + 1)) ++ drop st.job.progress.next es) ≡ thin es
 unfolding rows_in thinned
 some_left w st zs es h l =
-    let e : st.job.p.rows - st.row ≡ suc (st.job.p.rows - (st.row + 1)) = omega (arith, h) in
+    let e : st.job.progress.rows - st.row ≡ suc (st.job.progress.rows - (st.row + 1)) = omega (arith, h) in
     let f : 32768 + 16 * (st.row + 1) ≡ 32768 + 16 * st.row + 16 = omega arith in
-    ap (λ (a : ℕ). thinned (noted (row_of w st.row) (take st.count zs)) (rows_in w a (st.job.p.rows - (st.row + 1)) ++ drop st.job.p.next es)) f
-    ∙ ap (λ (m : ℕ). thinned (take st.count zs) (rows_in w (32768 + 16 * st.row) m ++ drop st.job.p.next es)) (sym e)
+    ap (λ (a : ℕ). thinned (noted (row_of w st.row) (take st.count zs)) (rows_in w a (st.job.progress.rows - (st.row + 1)) ++ drop st.job.progress.next es)) f
+    ∙ ap (λ (m : ℕ). thinned (take st.count zs) (rows_in w (32768 + 16 * st.row) m ++ drop st.job.progress.next es)) (sym e)
     ∙ l
 
 -- no record before n equals it
@@ -63,11 +66,11 @@ not_there zs r n h f =
 
 module _ (T F : Bytes) (size room : ℕ) where
   -- a refusal
-  pub closes : (j : Job) (k : ℕ) (zs : List Remark) (w : Bytes) → build T F (length w) size room ≡ refused k → Remains j.round j.p w → Inv T F size room (refusal_of j k) zs w
+  pub closes : (j : Job) (k : Refusal) (zs : List Remark) (w : Bytes) → build T F (length w) size room ≡ refused (number_of k) → Remains j.opening.round j.progress w → Inv T F size room (refusal_of j k) zs w
   closes j k zs w e m = (
     λ q. absurd (true≢false q),
     λ _. record {
-      closing = record { counts = ap (λ x. length (remarks_in x)) (sym e); bad = λ _. e; rest = λ _. m; well = λ q. absurd (false≢true q) };
+      closing = record { counts = ap (λ x. length (remarks_in x)) (sym e); answer = (e, m) };
       front = ap remarks_in (sym e);
     },
   )
@@ -91,7 +94,7 @@ module _ (T F : Bytes) (size room : ℕ) where
         go false q = h.own i st.row (ltb-false i st.base q) l (omega arith) h.fit.some
 
     merging : (a : ℕ) → a < room → (st.base ≤ a → a ≡ st.count) → ((i : ℕ) → i < a → same_remark (get_or zs i zero_remark) (row_of w st.row) ≡ false) → k ≤ a
-        → Goes T F size room (moved_to st a) zs w (bound room (st.job.p.rows - st.row) (st.job.p.seen - st.job.p.next) k)
+        → Goes T F size room (moved_to st a) zs w (bound room (st.job.progress.rows - st.row) (st.job.progress.seen - st.job.progress.next) k)
     merging a l s f g = (
       (
         λ _. record {
@@ -112,7 +115,7 @@ module _ (T F : Bytes) (size room : ℕ) where
         let es : List Remark = met_in h.fit.stands in
         let acc : List Remark = take st.count zs in
         let r : Remark = row_of w st.row in
-        let ys : List Remark = rows_in w (32768 + 16 * (st.row + 1)) (st.job.p.rows - (st.row + 1)) ++ drop st.job.p.next es in
+        let ys : List Remark = rows_in w (32768 + 16 * (st.row + 1)) (st.job.progress.rows - (st.row + 1)) ++ drop st.job.progress.next es in
         let fits : st.count ≤ length zs = omega (arith, n, h.len) in
         let m : remarked r acc ≡ false = not_there zs r st.count fits (all_apart b) in
         let t : thinned (noted r acc) ys ≡ thin es = some_left w st zs es h.fit.some h.left in
@@ -121,18 +124,18 @@ module _ (T F : Bytes) (size room : ℕ) where
         refuses_full h.fit.stands (omega (arith, g, d, n))
 
     sought_case : (b c : Bool) → ltb k st.base ≡ b → eqb st.count room ≡ c
-        → Goes T F size room (sought_at room st k) zs w (bound room (st.job.p.rows - st.row) (st.job.p.seen - st.job.p.next) k)
+        → Goes T F size room (sought_at room st k) zs w (bound room (st.job.progress.rows - st.row) (st.job.progress.seen - st.job.progress.next) k)
     unfolding sought_at
     sought_case true c p q =
         let l : k < st.base = ltb-true k st.base p in
         rw p (merging k (omega (arith, l, h.fit.base, h.fit.count)) (λ g. absurd (lt_irrefl 0 (omega (arith, g, l)))) h.apart (omega arith))
     sought_case false true p q =
         let b : st.base ≤ k = ltb-false k st.base p in
-        rw (p, q) (closes st.job 14 zs w (overfull b (eqb-true st.count room q)) (remains h.fit.stands), omega (arith, turns_last room (refusal_of st.job 14) refl))
+        rw (p, q) (closes st.job RemarkCount zs w (overfull b (eqb-true st.count room q)) (remains h.fit.stands), omega (arith, turns_last room (refusal_of st.job RemarkCount) refl))
     sought_case false false p q =
         let b : st.base ≤ k = ltb-false k st.base p in
         rw (p, q)
         (merging st.count (omega (arith, eqb-false st.count room q, h.fit.count)) (λ _. refl) (all_apart b) (omega (arith, h.upto, h.fit.base)))
 
-    pub sought : Goes T F size room (sought_at room st k) zs w (bound room (st.job.p.rows - st.row) (st.job.p.seen - st.job.p.next) k)
+    pub sought : Goes T F size room (sought_at room st k) zs w (bound room (st.job.progress.rows - st.row) (st.job.progress.seen - st.job.progress.next) k)
     sought = sought_case (ltb k st.base) (eqb st.count room) refl refl

@@ -10,10 +10,8 @@ use Rattle.numbers.specs.Result.{ok}
 use Rattle.value.specs.Rows.{row, fields_of}
 use Rattle.schema.specs.Defs.{Schema, StructDef, Lookup, winning, index_entries}
 use Rattle.schema.specs.Psch.{schema_of, struct_here}
-use Rattle.definitions.specs.Answers.{head_here}
 use Rattle.schema.specs.Index.{last_place}
 use Rattle.definitions.proofs.Finds.{winning_struct}
-use Rattle.definitions.specs.declared.members.Head.{Head}
 use Rattle.layout.specs.State.{Out, done, stop, after, bind, empty_state, contains, add_item}
 use Rattle.layout.specs.Demand3.{count}
 use Rattle.layout.specs.Always.{Known}
@@ -22,35 +20,13 @@ use Rattle.area.specs.declared.Round.{Round}
 use Rattle.area.specs.declared.Progress.{Progress}
 use Rattle.area.specs.Area.{rows_of, encode, stack_at, Rep, env_of}
 use Rattle.area.specs.Kept.{kept, meets, rows_bytes}
-use Rattle.area.specs.Posts.{Safe, gives, refuses, Meets, Lays, laid_is}
-use Rattle.area.specs.declared.Laid.{Laid}
-use Rattle.area.specs.declared.Laid.TheVariants as L
+use Rattle.area.specs.Posts.{Ans, gives, refuses, Meets, Lays}
 use Rattle.assemble.proofs.Wiping.{bare_zeros}
 use Rattle.cells.specs.declared.defs.Def.{Def}
 use Rattle.cells.specs.Names.{def_of}
-use Rattle.members.specs.declared.Wrote.TheVariants as W
+use Rattle.members.specs.Names.{defined_at}
 use Rattle.writers.specs.Posts.{Named, deeper, Pushes}
-use Rattle.rounds.specs.declared.run.Ran.TheVariants.{Done, Refused}
 use Rattle.rounds.specs.Run.{Roomy, Runs, beginning_of}
-
--- the numbers are in order
-pub begin_safe : (R : Round) (n : ℕ) → Roomy R n → Safe R n (beginning_of R)
-begin_safe R n h =
-    record {
-      small = h.0;
-      room = h.1;
-      from = omega arith;
-      items = omega arith;
-      low = omega arith;
-      stack = omega arith;
-      within = omega arith;
-      blocks = omega arith;
-      rows = omega arith;
-      structs = omega arith;
-      enums = omega arith;
-      next = omega arith;
-      seen = omega arith;
-    }
 
 -- nothing is used
 known_none : (L : Lookup) → Known L empty_state.core
@@ -89,10 +65,9 @@ rep_empty S R n h e =
     }
 
 -- the root's definition, as the code has it
-pub root_def_law : (F : Bytes) (S : Schema) (name place : ℕ) (h : Head) → schema_of F ≡ ok S → last_place F 0 name ≡ Some place → h ≡ head_here F place
-    → (winning S).struct name ≡ Some (def_of F (record { name = name; place = place; size = h.size; count = h.count }))
+pub root_def_law : (F : Bytes) (S : Schema) (name place : ℕ) → schema_of F ≡ ok S → last_place F 0 name ≡ Some place → (winning S).struct name ≡ Some (def_of F (defined_at F name place))
 unfolding def_of struct_here
-root_def_law F S name place h e f g = winning_struct F name (Some place) S e (sym f) ∙ (rw g refl)
+root_def_law F S name place e f = winning_struct F name (Some place) S e (sym f)
 
 -- what the root's structure and its item give
 module _ (T F : Bytes) (R : Round) (n : ℕ) (w : Bytes) (d : Def) where
@@ -105,12 +80,11 @@ module _ (T F : Bytes) (R : Round) (n : ℕ) (w : Bytes) (d : Def) where
     at_root S e f g = let z : Some (def_of F d) ≡ Some e = sym (wins S f) ∙ g in cc
 
     -- the structure is refused
-    pub root_refused : (k : ℕ) (t : Progress) (v : Bytes) → Pushes (Named F d) R n (beginning_of R) w d.size (λ S. deeper T R 32 S (def_of F d) (fields_of T (row T 0))) (W.Refused k t) v
-        → Runs T F R n d.name (Refused k t) v
+    pub root_refused : (k : ℕ) (t : Progress) (v : Bytes) → Pushes (Named F d) R n (beginning_of R) w d.size (λ S. deeper T R 32 S (def_of F d) (fields_of T (row T 0))) (refuses k t) v
+        → Runs T F R n d.name (refuses k t) v
     unfolding root bind after
     root_refused k t v x =
         record {
-          safe = x.grew;
           says = λ S e f g h.
               rw (← (at_root S e f h))
               (go S (write (env_of T S R) 32 32 (def_of F d) (fields_of T (row T 0)) empty_state) (x.says S (known S f) empty_state [] (rw zero (rep_empty S R n room g))));
@@ -121,46 +95,19 @@ module _ (T F : Bytes) (R : Round) (n : ℕ) (w : Bytes) (d : Def) where
         go S (done b s) m = absurd m
         go S (stop j es) m = m
 
-    module _ (t : Progress) (v : Bytes) (x : Pushes (Named F d) R n (beginning_of R) w d.size (λ S. deeper T R 32 S (def_of F d) (fields_of T (row T 0))) (W.Done t) v) (r : Laid) (u : Bytes)
-        (y : Lays R n t v d.name d.size (laid_is r) u) where
-      laid : (S : Schema) → schema_of F ≡ ok S → index_entries S ≡ R.entries → Meets S R n (λ (_ : ℕ). []) (λ (a x : ℕ). a ≡ x) (root (env_of T S R) (def_of F d) (fields_of T (row T 0)) empty_state) (laid_is r) u
-      unfolding root bind after def_of
-      laid S f g = go (write (env_of T S R) 32 32 (def_of F d) (fields_of T (row T 0)) empty_state) (x.says S (known S f) empty_state [] (rw zero (rep_empty S R n room g)))
-        where
-          go : (o : Out Bytes) → Meets S R n (λ b. [] ++ b) (λ b (x : Unit {0}). length b ≡ d.size) o (gives tt t) v
-              → Meets S R n (λ (_ : ℕ). []) (λ (a x : ℕ). a ≡ x) (after o (λ bs. add_item d.name bs)) (laid_is r) u
-          go (done b s) m = y.says S s [] b m.1 m.0
-          go (stop j es) m = absurd m
-
-    -- the item is refused
-    pub item_refused : (t : Progress) (v : Bytes) (k : ℕ) (q : Progress) (u : Bytes) → Pushes (Named F d) R n (beginning_of R) w d.size (λ S. deeper T R 32 S (def_of F d) (fields_of T (row T 0))) (W.Done t) v
-        → Lays R n t v d.name d.size (refuses k q) u → Runs T F R n d.name (Refused k q) u
-    item_refused t v k q u x y =
-        record { safe = rw y.grew.1 x.grew.0; says = λ S e f g h. rw (← (at_root S e f h)) (laid t v x (L.Refused k q) u y S f g) }
-
-    -- the item is laid
-    pub item_laid : (t : Progress) (v : Bytes) (a : ℕ) (q : Progress) (u : Bytes) → Pushes (Named F d) R n (beginning_of R) w d.size (λ S. deeper T R 32 S (def_of F d) (fields_of T (row T 0))) (W.Done t) v
-        → Lays R n t v d.name d.size (gives a q) u → Runs T F R n d.name (Done a q) u
-    item_laid t v a q u x y =
-        let s = x.grew.0 in
-        let g = x.grew.1.grown in
-        let l = y.grew in
+    -- its item is laid, or refused
+    pub root_laid : (t : Progress) (v : Bytes) (r : Ans ℕ) (u : Bytes)
+        → Pushes (Named F d) R n (beginning_of R) w d.size (λ S. deeper T R 32 S (def_of F d) (fields_of T (row T 0))) (gives (tt {0}) t) v
+        → Lays R n t v d.name d.size r u → Runs T F R n d.name r u
+    unfolding root bind after def_of
+    root_laid t v r u x y =
         record {
-          safe =
-              record {
-                small = s.small;
-                room = s.room;
-                from = omega (arith, s.from, l.end);
-                items = omega (arith, l.end, l.charge, g.paid);
-                low = omega (arith, l.top, g.top);
-                stack = omega (arith, l.top, l.charge, g.top);
-                within = omega (arith, l.charge, s.within);
-                blocks = l.blocks;
-                rows = omega (arith, l.rows, s.rows);
-                structs = omega (arith, l.structs, s.structs);
-                enums = omega (arith, l.enums, s.enums);
-                next = omega (arith, l.next, l.seen, s.next);
-                seen = omega (arith, l.seen, l.charge, s.seen);
-              };
-          says = λ S e f g h. rw (← (at_root S e f h)) (laid t v x (L.At a q) u y S f g);
+          says = λ S e f g h.
+              rw (← (at_root S e f h))
+              (go S (write (env_of T S R) 32 32 (def_of F d) (fields_of T (row T 0)) empty_state) (x.says S (known S f) empty_state [] (rw zero (rep_empty S R n room g))));
         }
+      where
+        go : (S : Schema) (o : Out Bytes) → Meets S R n (λ b. [] ++ b) (λ b (x : Unit {0}). length b ≡ d.size) o (gives (tt {0}) t) v
+            → Meets S R n (λ (_ : ℕ). []) (λ (a x : ℕ). a ≡ x) (after o (λ bs. add_item d.name bs)) r u
+        go S (done b s) m = y.says S s [] b m.1 m.0
+        go S (stop j es) m = absurd m

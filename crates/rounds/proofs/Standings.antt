@@ -1,6 +1,8 @@
 -- What a round that has run tells of the remarks and of the answer. Assumes nothing.
 use mathlib.Core.Path.{◌≡◌, refl, sym, ap, subst, ◌∙◌}
-use mathlib.Core.Bool.{Bool, true, false, cond, ◌||◌}
+use Rattle.std.specs.Prelude as Rust
+use Rattle.std.specs.Prelude.{Ok, Err}
+use mathlib.Core.Bool.{true, false, ◌||◌}
 use mathlib.Core.List.{List, []}
 use Prim.Native.Nat.{ℕ, zero, suc, ◌+◌, ◌*◌, ◌<◌, ◌≤◌}
 use native.Mathlib.Nat.{lt_irrefl, suc-le-suc_iff}
@@ -10,6 +12,7 @@ use lib.ListN.{length, get_or, take, drop, take-append-drop}
 use borrow.Author.Tests.{lt-ltb, le-ltb}
 use Rattle.numbers.specs.Words.{Bytes, over}
 use Rattle.numbers.specs.Result.{ok, refused, and_then}
+use Rattle.numbers.specs.declared.refusal.Refusal.{Refusal}
 use Rattle.schema.specs.Defs.{Schema, Lookup, winning}
 use Rattle.layout.specs.State.{Remark, State, Out, done, stop, same_remark, thin, events_of}
 use Rattle.layout.specs.Assemble.{file_of}
@@ -19,7 +22,7 @@ use Rattle.area.specs.declared.Progress.{Progress}
 use Rattle.area.specs.Kept.{kept}
 use Rattle.area.specs.Rows.{row_in, rows_in}
 use Rattle.area.specs.Area.{Rep}
-use Rattle.area.specs.Posts.{gives, refuses, Meets, Stopped}
+use Rattle.area.specs.Posts.{answered, Meets, Stopped}
 use Rattle.area.proofs.Noting.{rows_are}
 use Rattle.rounds.specs.declared.Job.{Job}
 use Rattle.assemble.specs.Packed.{InUse, table_at}
@@ -73,12 +76,12 @@ length_rows_in w at zero = refl
 length_rows_in w at (suc n) = ap suc (length_rows_in w (at + 16) n)
 
 -- what stands in the area, be it after an answer or after a refusal
-stood : (S : Schema) (R : Round) (n : ℕ) (o : Out ℕ) (good : Bool) (value : ℕ) (p : Progress) (w : Bytes)
-    → Meets S R n (λ _. []) (λ a x. a ≡ x) o (cond good (gives value p) (refuses value p)) w → Stopped S R n (events_of o) p w
-stood S R n (done a s) true value p w m = record { state = s; stack = []; rep = m.0; met = refl }
-stood S R n (done a s) false value p w m = absurd m
-stood S R n (stop k es) true value p w m = absurd m
-stood S R n (stop k es) false value p w m = m.1
+stood : (S : Schema) (R : Round) (n : ℕ) (o : Out ℕ) (r : Rust.Result ℕ Refusal) (p : Progress) (w : Bytes)
+    → Meets S R n (λ _. []) (λ a x. a ≡ x) o (answered r p) w → Stopped S R n (events_of o) p w
+stood S R n (done a s) (Ok x) p w m = record { state = s; stack = []; rep = m.0; met = refl }
+stood S R n (done a s) (Err e) p w m = absurd m
+stood S R n (stop k es) (Ok x) p w m = absurd m
+stood S R n (stop k es) (Err e) p w m = m.1
 
 -- what holds a state is in use, without a table of places
 pub in_use : {S : Schema} {R : Round} {s : State} {σ : Bytes} {p : Progress} {w : Bytes} → Rep S R (length w) s σ p w → InUse S R (length w) p w
@@ -87,60 +90,57 @@ in_use {S} {R} {s} {σ} {p} {w} r =
     record { state = s; stack = σ; before = w; table = []; rep = r; few = omega arith; is = sym (take-append-drop table_at w) }
 
 module _ {T F : Bytes} {size room : ℕ} {j : Job} {w : Bytes} (h : Standing T F size room j w) where
-  pub standing : Stopped h.rooted.schema j.round (length w) (met_in h) j.p w
-  standing = stood h.rooted.schema j.round (length w) (run_of T h.rooted.schema h.rooted.def j.round) j.good j.value j.p w h.meets
+  pub standing : Stopped h.rooted.schema j.opening.round (length w) (met_in h) j.progress w
+  standing = stood h.rooted.schema j.opening.round (length w) (run_of T h.rooted.schema h.rooted.def j.opening.round) j.outcome j.progress w h.meets
 
   -- what a refusal finds in the work area
-  pub remains : Remains j.round j.p w
-  remains = record {
-    none = λ z. absurd (lt_irrefl 0 (omega (arith, z, h.safe.low)));
-    some = λ _. (h.safe, (h.rooted.schema, in_use standing.rep));
-  }
+  pub remains : Remains j.opening.round j.progress w
+  remains = record { safe = h.safe; some = (h.rooted.schema, in_use standing.rep) }
 
   abbrev met : List Remark
   met = met_in h
 
-  account : Accounts j.round.skip met (kept j.round.skip met)
-  account = accounts j.round.skip met
+  account : Accounts j.opening.round.skip met (kept j.opening.round.skip met)
+  account = accounts j.opening.round.skip met
 
   -- the numbers of what is kept
-  rows_count : j.p.rows ≡ length (kept j.round.skip met).rows
-  rows_count = standing.rep.rows ∙ ap (λ (es : List Remark). length (kept j.round.skip es).rows) standing.met
+  rows_count : j.progress.rows ≡ length (kept j.opening.round.skip met).rows
+  rows_count = standing.rep.rows ∙ ap (λ (es : List Remark). length (kept j.opening.round.skip es).rows) standing.met
 
-  next_is : j.p.next ≡ (kept j.round.skip met).next
-  next_is = standing.rep.next ∙ ap (λ (es : List Remark). (kept j.round.skip es).next) standing.met
+  next_is : j.progress.next ≡ (kept j.opening.round.skip met).next
+  next_is = standing.rep.next ∙ ap (λ (es : List Remark). (kept j.opening.round.skip es).next) standing.met
 
-  pub seen_is : j.p.seen ≡ length met
-  seen_is = standing.rep.seen ∙ ap (λ (es : List Remark). (kept j.round.skip es).seen) standing.met ∙ account.seen
+  pub seen_is : j.progress.seen ≡ length met
+  seen_is = standing.rep.seen ∙ ap (λ (es : List Remark). (kept j.opening.round.skip es).seen) standing.met ∙ account.seen
 
-  pub rows_kept : rows_in w 32768 j.p.rows ≡ thin (drop j.round.skip (take j.p.next met))
+  pub rows_kept : rows_in w 32768 j.progress.rows ≡ thin (drop j.opening.round.skip (take j.progress.next met))
   rows_kept =
-      rows_are j.round (length w) j.p w zero_remark h.safe h.rooted.schema standing.state standing.stack standing.rep
-      ∙ ap (λ (es : List Remark). (kept j.round.skip es).rows) standing.met
+      rows_are j.opening.round (length w) j.progress w zero_remark h.safe h.rooted.schema standing.state standing.stack standing.rep
+      ∙ ap (λ (es : List Remark). (kept j.opening.round.skip es).rows) standing.met
       ∙ account.rows_are
-      ∙ ap (λ (n : ℕ). thin (drop j.round.skip (take n met))) (sym next_is)
+      ∙ ap (λ (n : ℕ). thin (drop j.opening.round.skip (take n met))) (sym next_is)
 
-  pub next_within : j.p.next ≤ length met
+  pub next_within : j.progress.next ≤ length met
   next_within = omega (arith, next_is, account.next, account.seen)
 
-  pub next_after : j.round.skip ≤ j.p.next
-  next_after = omega (arith, next_is, goes_on j.round.skip met h.skips)
+  pub next_after : j.opening.round.skip ≤ j.progress.next
+  next_after = omega (arith, next_is, goes_on j.opening.round.skip met h.skips)
 
-  pub rows_fewer : j.p.rows + j.round.skip ≤ j.p.next
+  pub rows_fewer : j.progress.rows + j.opening.round.skip ≤ j.progress.next
   rows_fewer = omega (arith, rows_count, next_is, account.fewer, next_after)
 
-  pub rows_fill : j.p.next < j.p.seen → j.p.rows ≡ 1024
+  pub rows_fill : j.progress.next < j.progress.seen → j.progress.rows ≡ 1024
   rows_fill l = rows_count ∙ account.fills (omega (arith, l, next_is, seen_is, account.seen))
 
   -- no two rows are equal
-  pub rows_distinct : (i k : ℕ) → i < k → k < j.p.rows → same_remark (row_of w i) (row_of w k) ≡ false
+  pub rows_distinct : (i k : ℕ) → i < k → k < j.progress.rows → same_remark (row_of w i) (row_of w k) ≡ false
   rows_distinct i k l g =
-      let d : Distinct (rows_in w 32768 j.p.rows) = subst Distinct (sym rows_kept) (distinct_thin (drop j.round.skip (take j.p.next met))) in
-      let rs : List Remark = rows_in w 32768 j.p.rows in
-      ap (λ (x : Remark). same_remark x (row_of w k)) (sym (row_is_law w 32768 j.p.rows i (omega (arith, l, g))))
-      ∙ ap (same_remark (get_or rs i zero_remark)) (sym (row_is_law w 32768 j.p.rows k g))
-      ∙ d i k l (omega (arith, g, length_rows_in w 32768 j.p.rows))
+      let d : Distinct (rows_in w 32768 j.progress.rows) = subst Distinct (sym rows_kept) (distinct_thin (drop j.opening.round.skip (take j.progress.next met))) in
+      let rs : List Remark = rows_in w 32768 j.progress.rows in
+      ap (λ (x : Remark). same_remark x (row_of w k)) (sym (row_is_law w 32768 j.progress.rows i (omega (arith, l, g))))
+      ∙ ap (same_remark (get_or rs i zero_remark)) (sym (row_is_law w 32768 j.progress.rows k g))
+      ∙ d i k l (omega (arith, g, length_rows_in w 32768 j.progress.rows))
 
   -- 14
   pub refuses_full : room < length (thin met) → build T F (length w) size room ≡ refused 14
-  refuses_full l = h.builds ∙ made_full (winning h.rooted.schema) size room (run_of T h.rooted.schema h.rooted.def j.round) l
+  refuses_full l = h.builds ∙ made_full (winning h.rooted.schema) size room (run_of T h.rooted.schema h.rooted.def j.opening.round) l

@@ -1,7 +1,11 @@
 -- The merge of the rounds' rows into the lent list. Its invariant: what is left leads to the same end.
-use Rattle.std.specs.Prelude.{◌≡◌, ℕ, ◌+◌, ◌*◌, ◌-◌, ◌<◌, ◌≤◌, true, false, cond, ◌||◌, List, [], ◌++◌, ltb, eqb, length, get_or, take, drop}
-use Rattle.numbers.specs.Words.{Bytes, zeros}
+use Rattle.std.specs.Prelude as Rust
+use Rattle.std.specs.Prelude.{◌≡◌, ℕ, ◌+◌, ◌*◌, ◌-◌, ◌<◌, ◌≤◌, true, false, cond, ◌||◌, List, [], ◌++◌, ltb, eqb, length, get_or, take, drop, Ok, Err}
+use Rattle.numbers.specs.Words.{Bytes}
 use Rattle.numbers.specs.Result.{Result, ok, refused, and_then, needed}
+use Rattle.numbers.specs.Refusal.{number_of}
+use Rattle.numbers.specs.declared.refusal.Refusal.{Refusal}
+use Rattle.numbers.specs.declared.refusal.Refusal.TheVariants.{OutputLength, RemarkCount}
 use Rattle.value.specs.Rows.{row}
 use Rattle.schema.specs.Defs.{Schema, winning, index_entries}
 use Rattle.schema.specs.Psch.{schema_of}
@@ -16,23 +20,14 @@ use Rattle.area.specs.Posts.{Safe}
 use Rattle.assemble.specs.Packed.{InUse}
 use Rattle.rounds.specs.declared.Job.{Job}
 use Rattle.rounds.specs.declared.Stage.{Stage}
-use Rattle.rounds.specs.declared.run.Ran.{Ran}
-use Rattle.rounds.specs.declared.run.Ran.TheVariants.{Done, Refused}
 use Rattle.rounds.specs.declared.opening.Opening.{Opening}
 use Rattle.rounds.specs.Run.{Roomy, Rooted, run_of, made, Standing, met_in, Laid}
 
 -- the stages, by value
 
-abbrev no_numbers : Progress
-no_numbers = record { blocks = 0; rows = 0; structs = 0; enums = 0; end = 0; top = 0; charge = 0; seen = 0; next = 0 }
-
--- before any round
-abbrev pub no_job : Job
-no_job = record { good = false; value = 0; place = 0; name = 0; round = record { entries = 0; cap = 0; skip = 0 }; p = no_numbers }
-
--- a refusal, after the round j or before any: "zeroes all remarks"
-abbrev pub refusal_of : Job → ℕ → Stage
-refusal_of j k =
+-- a refusal, after the round j: "zeroes all remarks"
+abbrev pub refusal_of : Job → Refusal → Stage
+refusal_of j e =
     record {
       at = 0;
       last = true;
@@ -40,16 +35,21 @@ refusal_of j k =
       base = 0;
       count = 0;
       row = 0;
-      job = record { good = false; value = k; place = j.place; name = j.name; round = j.round; p = j.p };
+      job = record { opening = j.opening; outcome = Err e; progress = j.progress };
     }
 
 -- the list holds all remarks, and the file has n bytes
 abbrev pub ended_at : Stage → ℕ → Stage
 ended_at st n = record { at = st.count; last = true; length = n; base = st.base; count = st.count; row = st.row; job = st.job }
 
--- all rows are merged, and the file has n bytes: the layout's own refusal; 13, "longer than the output or than 16,777,216"; or the end
+-- the stage at which all rows are merged, by what the layout gave: 13, "longer than the output or than 16,777,216", or the end; or its own refusal
+abbrev pub judged_by : ℕ → Stage → ℕ → Rust.Result ℕ Refusal → Stage
+judged_by size st n (Ok x) = cond (ltb size n || ltb 16777216 n) (refusal_of st.job OutputLength) (ended_at st n)
+judged_by size st n (Err e) = refusal_of st.job e
+
+-- all rows are merged, and the file has n bytes
 unfoldable pub judged_at : ℕ → Stage → ℕ → Stage
-judged_at size st n = cond st.job.good (cond (ltb size n || ltb 16777216 n) (refusal_of st.job 13) (ended_at st n)) (refusal_of st.job st.job.value)
+judged_at size st n = judged_by size st n st.job.outcome
 
 -- another record is looked at
 abbrev pub moved_to : Stage → ℕ → Stage
@@ -57,14 +57,9 @@ moved_to st k = record { at = k; last = st.last; length = st.length; base = st.b
 
 -- the row is looked for from record k on: among those of earlier rounds, then it is put behind all; 14: "one more distinct remark than records"
 unfoldable pub sought_at : ℕ → Stage → ℕ → Stage
-sought_at room st k = cond (ltb k st.base) (moved_to st k) (cond (eqb st.count room) (refusal_of st.job 14) (moved_to st st.count))
+sought_at room st k = cond (ltb k st.base) (moved_to st k) (cond (eqb st.count room) (refusal_of st.job RemarkCount) (moved_to st st.count))
 
--- a round's job
-abbrev pub job_of : Ran → Round → ℕ → ℕ → Job
-job_of (Done x p) R place name = record { good = true; value = x; place = place; name = name; round = R; p = p }
-job_of (Refused k p) R place name = record { good = false; value = k; place = place; name = name; round = R; p = p }
-
--- its rows are to be merged behind `count` records
+-- a round's rows are to be merged behind `count` records
 abbrev pub taken_at : Job → ℕ → Stage
 taken_at j count = record { at = 0; last = false; length = 0; base = count; count = count; row = 0; job = j }
 
@@ -83,17 +78,17 @@ row_of w i = row_in w (32768 + 16 * i)
 pub record Fit (T F w : Bytes) (size room : ℕ) (st : Stage) : Type 0 where
   pub stands : Standing T F size room st.job w
   pub going : st.last ≡ false
-  pub some : st.row < st.job.p.rows
+  pub some : st.row < st.job.progress.rows
   pub count : st.count ≤ room
   pub base : st.base ≤ st.count
 
 -- rows from i on, and the remarks after them, are still to be merged
 abbrev pub Left : List Remark → Bytes → Stage → ℕ → List Remark → Type 0
-Left es w st i zs = thinned (take st.count zs) (rows_in w (32768 + 16 * i) (st.job.p.rows - i) ++ drop st.job.p.next es) ≡ thin es
+Left es w st i zs = thinned (take st.count zs) (rows_in w (32768 + 16 * i) (st.job.progress.rows - i) ++ drop st.job.progress.next es) ≡ thin es
 
 -- none of this round's records is a row from i on
 abbrev pub Own : Bytes → Stage → ℕ → List Remark → Type 0
-Own w st i zs = (k j : ℕ) → st.base ≤ k → k < st.count → i ≤ j → j < st.job.p.rows → same_remark (get_or zs k zero_remark) (row_of w j) ≡ false
+Own w st i zs = (k j : ℕ) → st.base ≤ k → k < st.count → i ≤ j → j < st.job.progress.rows → same_remark (get_or zs k zero_remark) (row_of w j) ≡ false
 
 pub record Merging (T F : Bytes) (size room : ℕ) (st : Stage) (zs : List Remark) (w : Bytes) : Type 0 where
   pub fit : Fit T F w size room st
@@ -103,17 +98,20 @@ pub record Merging (T F : Bytes) (size room : ℕ) (st : Stage) (zs : List Remar
   pub own : Own w st st.row zs
   pub apart : (k : ℕ) → k < st.at → same_remark (get_or zs k zero_remark) (row_of w st.row) ≡ false
 
--- what stands in the work area at a refusal: nothing before any round, or what the round has in use
+-- what stands in the work area at a refusal: what the round has in use
 pub record Remains (R : Round) (p : Progress) (w : Bytes) : Type 0 where
-  pub none : p.top ≡ 0 → w ≡ zeros (length w)
-  pub some : (p.top ≡ 0 → ⊥) → Safe R (length w) p × ((S : Schema) × InUse S R (length w) p w)
+  pub safe : Safe R (length w) p
+  pub some : (S : Schema) × InUse S R (length w) p w
+
+-- the file is known, or the refusal
+abbrev pub Known : Bytes → Bytes → ℕ → ℕ → Job → ℕ → Bytes → Rust.Result ℕ Refusal → Type 0
+Known T F size room j len w (Ok x) = Laid T F size room j x len w
+Known T F size room j len w (Err e) = (build T F (length w) size room ≡ refused (number_of e)) × Remains j.opening.round j.progress w
 
 -- the answer is known
 pub record Closing (T F : Bytes) (size room : ℕ) (j : Job) (len count : ℕ) (w : Bytes) : Type 0 where
   pub counts : count ≡ length (remarks_in (build T F (length w) size room))
-  pub bad : j.good ≡ false → build T F (length w) size room ≡ refused j.value
-  pub rest : j.good ≡ false → Remains j.round j.p w
-  pub well : j.good ≡ true → Laid T F size room j len w
+  pub answer : Known T F size room j len w j.outcome
 
 pub record Closed (T F : Bytes) (size room : ℕ) (st : Stage) (zs : List Remark) (w : Bytes) : Type 0 where
   pub closing : Closing T F size room st.job st.length st.count w
@@ -128,7 +126,7 @@ abbrev pub bound : ℕ → ℕ → ℕ → ℕ → ℕ
 bound room n m at = (n + m) * (room + 1) + (room - at)
 
 unfoldable pub turns : ℕ → Stage → ℕ
-turns room st = cond st.last 0 (bound room (st.job.p.rows - st.row) (st.job.p.seen - st.job.p.next) st.at)
+turns room st = cond st.last 0 (bound room (st.job.progress.rows - st.row) (st.job.progress.seen - st.job.progress.next) st.at)
 
 -- the invariant holds, with at most n turns left
 abbrev pub Goes : Bytes → Bytes → ℕ → ℕ → Stage → List Remark → Bytes → ℕ → Type 0
@@ -143,12 +141,12 @@ Judges F size st w r =
     → Goes T F size room r zs w 0
 
 -- a round runs, and its rows are taken
-abbrev pub Takes : Bytes → Bytes → ℕ → ℕ → Round → ℕ → ℕ → ℕ → Stage → Bytes → Type 0
-Takes T F size room R place name count r w =
-    (h : Rooted F R place name) → build T F (length w) size room ≡ made (winning h.schema) size room (run_of T h.schema h.def R)
-    → R.skip ≤ length (events_of (run_of T h.schema h.def R)) → count ≤ room → (zs : List Remark) → length zs ≡ room
-    → thinned (take count zs) (drop R.skip (events_of (run_of T h.schema h.def R))) ≡ thin (events_of (run_of T h.schema h.def R))
-    → Goes T F size room r zs w (bound room 0 (length (events_of (run_of T h.schema h.def R)) - R.skip) 0)
+abbrev pub Takes : Bytes → Bytes → ℕ → ℕ → Opening → ℕ → Stage → Bytes → Type 0
+Takes T F size room o count r w =
+    (h : Rooted F o.round o.place o.name) → build T F (length w) size room ≡ made (winning h.schema) size room (run_of T h.schema h.def o.round)
+    → o.round.skip ≤ length (events_of (run_of T h.schema h.def o.round)) → count ≤ room → (zs : List Remark) → length zs ≡ room
+    → thinned (take count zs) (drop o.round.skip (events_of (run_of T h.schema h.def o.round))) ≡ thin (events_of (run_of T h.schema h.def o.round))
+    → Goes T F size room r zs w (bound room 0 (length (events_of (run_of T h.schema h.def o.round)) - o.round.skip) 0)
 
 -- what is refused before the layout, or what it runs with, in a work area of n bytes
 abbrev pub Opens : Bytes → Bytes → ℕ → Result Opening → Type 0

@@ -1,25 +1,34 @@
 // One round of the layout: what is judged before the first, a run, and where the merge of its rows into the list of remarks stands.
 #![tactic(auto)]
 
-use area::{Progress, Round};
+use crate::opening::Opening;
+use area::Progress;
+use numbers::refusal::Refusal;
 
 pub mod merge;
 pub mod opening;
 pub mod run;
 
-// A round that has run: whether it ended well, the root's pointer or the refusal's number, the root's place and name, and its numbers.
+// What is built: the sheet, the schema, the output's length, and how many records are lent for remarks.
+#[derive(Clone, Copy)]
+pub struct Task<'a> {
+    pub sheet: &'a [u8],
+    pub schema: &'a [u8],
+    pub size: usize,
+    pub room: usize,
+}
+
+// A round that has run: what it ran with, the root's pointer or the refusal, and its numbers.
 #[derive(Clone, Copy)]
 pub struct Job {
-    pub good: bool,
-    pub value: u32,
-    pub place: usize,
-    pub name: u32,
-    pub round: Round,
-    pub p: Progress,
+    pub opening: Opening,
+    pub outcome: Result<u32, Refusal>,
+    pub progress: Progress,
 }
 
 // Where the merge of a round's rows into the list stands. Until `last`: row `row` is compared with record `at` of the `base` that
 // earlier rounds left, or is to be put at `at`, behind the `count` that there are. At `last` only zeros are left to write, from `at` on.
+// No enum of two cases: `at`, `count` and `job` are read in both, and each step changes a few of the fields.
 #[derive(Clone, Copy)]
 pub struct Stage {
     pub at: usize,

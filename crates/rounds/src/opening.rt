@@ -3,6 +3,7 @@ ghost use Rattle.std.specs.Prelude.{◌≡◌};
 ghost use Rattle.numbers.specs.Refusal.{answer_of};
 ghost use Rattle.rounds.specs.Merge.{Opens, roomed_at, rooted_at, schemed_at, opening_of};
 
+use crate::Task;
 use area::Round;
 use definitions::lookup::find;
 use numbers::refusal::Refusal;
@@ -35,28 +36,30 @@ fn roomed(work: usize, entries: usize, place: usize, name: u32) -> Result<Openin
     Ok(Opening { round, place, name })
 }
 
-// The root's definition, then the rooms.
-fn rooted(sheet: &[u8], schema: &[u8], work: usize, entries: usize) -> Result<Opening, Refusal>
-    ensures { answer_of result ≡ rooted_at sheet.now schema.now work entries }
-{
-    let name = read_row(sheet, 0).a;
-    let place = find(schema, Kind::Structure, name).ok_or(Refusal::NoRootDefinition)?;
-    roomed(work, entries, place, name)
-}
+impl Task<'_> {
+    // The root's definition, then the rooms.
+    fn rooted(&self, work: usize, entries: usize) -> Result<Opening, Refusal>
+        ensures { answer_of result ≡ rooted_at self.now.sheet.now self.now.schema.now work entries }
+    {
+        let name = read_row(self.sheet, 0).a;
+        let place = find(self.schema, Kind::Structure, name).ok_or(Refusal::NoRootDefinition)?;
+        roomed(work, entries, place, name)
+    }
 
-// The schema, then the root.
-fn schemed(sheet: &[u8], schema: &[u8], work: usize) -> Result<Opening, Refusal>
-    ensures { answer_of result ≡ schemed_at sheet.now schema.now work }
-{
-    let entries = check_schema(schema)?;
-    rooted(sheet, schema, work, entries)
-}
+    // The schema, then the root.
+    fn schemed(&self, work: usize) -> Result<Opening, Refusal>
+        ensures { answer_of result ≡ schemed_at self.now.sheet.now self.now.schema.now work }
+    {
+        let entries = check_schema(self.schema)?;
+        self.rooted(work, entries)
+    }
 
-// What is judged before the layout, for a work area of `work` bytes: the sheet, the schema, the root's definition, the work area.
-pub fn opened(sheet: &[u8], schema: &[u8], work: usize) -> Result<Opening, Refusal>
-    ensures value { answer_of result ≡ opening_of sheet.now schema.now work }
-    ensures opens { Opens sheet.now schema.now work (answer_of result) }
-{
-    check_sheet(sheet)?;
-    schemed(sheet, schema, work)
+    // What is judged before the layout, for a work area of `work` bytes: the sheet, the schema, the root's definition, the work area.
+    pub fn opened(&self, work: usize) -> Result<Opening, Refusal>
+        ensures value { answer_of result ≡ opening_of self.now.sheet.now self.now.schema.now work }
+        ensures opens { Opens self.now.sheet.now self.now.schema.now work (answer_of result) }
+    {
+        check_sheet(self.sheet)?;
+        self.schemed(work)
+    }
 }

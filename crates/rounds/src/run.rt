@@ -1,79 +1,80 @@
 // One run of the layout.
-ghost use Rattle.std.specs.Prelude.{◌≡◌, ◌+◌, ◌*◌, ◌^◌, ◌<◌, length};
+ghost use Rattle.std.specs.Prelude.{◌≡◌, length};
 ghost use Rattle.numbers.specs.Words.{zeros};
-ghost use Rattle.area.specs.Area.{items_at};
+ghost use Rattle.area.specs.Posts.{Safe};
+ghost use Rattle.area.specs.Steps.{size, Step};
 ghost use Rattle.rounds.specs.Run.{beginning_of, Rooted, Roomy, Runs};
 
-use area::items::lay;
-use area::{Laid, Progress, Round};
-use cells::defs::Def;
+use crate::opening::Opening;
+use crate::{Job, Task};
+use area::{Area, Progress};
 use choices::source::Source;
-use definitions::members::read_head;
-use members::Wrote;
-use writers::write::write_struct;
+use members::def_at;
+use numbers::refusal::Refusal;
+use writers::write::Writer;
 
-// The root's pointer; or the refusal, 8, 9, 10 or 11.
-#[derive(Clone, Copy)]
-pub enum Ran {
-    Done(u32, Progress),
-    Refused(u32, Progress),
-}
-
-// The numbers before the first byte.
-fn begun(round: Round) -> Progress
-    requires { items_at round + 4 * round.cap < 2 ^ 63 }
-    ensures { result ≡ beginning_of round }
-{
-    let end = 65536 + 8 * round.entries;
-    Progress {
-        blocks: 0,
-        rows: 0,
-        structs: 0,
-        enums: 0,
-        end: end,
-        top: end + round.cap,
-        charge: 0,
-        seen: 0,
-        next: 0,
+impl Opening {
+    // The work area before the first byte.
+    pub fn begin<'a>(&self, bytes: &'a mut [u8]) -> Area<'a>
+        requires { Roomy self.now.round (length bytes.old) }
+        ensures lent { result.bytes.ghost_name ≡ bytes.entry.ghost_name }
+        ensures bytes { result.bytes.now ≡ bytes.old }
+        ensures round { result.round ≡ self.now.round }
+        ensures progress { result.progress ≡ beginning_of self.now.round }
+    {
+        let round = self.round;
+        let end = 65536 + 8 * round.entries;
+        let progress = Progress {
+            blocks: 0,
+            rows: 0,
+            structs: 0,
+            enums: 0,
+            end,
+            top: end + round.cap,
+            charge: 0,
+            seen: 0,
+            next: 0,
+        };
+        Area {
+            bytes,
+            round,
+            progress,
+        }
     }
 }
 
-// Runs the layout from its beginning to its end.
-pub fn run_round(
-    sheet: &[u8],
-    schema: &[u8],
-    work: &mut [u8],
-    round: Round,
-    place: usize,
-    name: u32,
-) -> Ran
-    requires { Roomy round (length work.old) × (work.old ≡ zeros (length work.old)) × Rooted schema.now round place name }
-    ensures { Runs sheet.now schema.now round (length work.old) name result work.new }
-{
-    let h = read_head(schema, place);
-    let size = h.size;
-    let count = h.count;
-    let len = size as usize;
-    let d = Def {
-        name: name,
-        place: place,
-        size: size,
-        count: count,
-    };
-    match write_struct(
-        sheet,
-        schema,
-        work,
-        round,
-        32,
-        begun(round),
-        d,
-        Source::Row(0),
-    ) {
-        Wrote::Refused(k, t) => Ran::Refused(k, t),
-        Wrote::Done(t) => match lay(work, round, t, name, len) {
-            Laid::Refused(k, u) => Ran::Refused(k, u),
-            Laid::At(x, u) => Ran::Done(x, u),
-        },
+impl Job {
+    // The work area as the round left it.
+    pub fn area<'a>(&self, bytes: &'a mut [u8]) -> Area<'a>
+        requires { Safe self.now.opening.round (length bytes.old) self.now.progress }
+        ensures lent { result.bytes.ghost_name ≡ bytes.entry.ghost_name }
+        ensures bytes { result.bytes.now ≡ bytes.old }
+        ensures round { result.round ≡ self.now.opening.round }
+        ensures progress { result.progress ≡ self.now.progress }
+    {
+        Area {
+            bytes,
+            round: self.opening.round,
+            progress: self.progress,
+        }
+    }
+}
+
+impl Task<'_> {
+    // Runs the layout from its beginning to its end: the root's pointer; or refusal 8, 9, 10 or 11.
+    pub fn run(&self, area: &mut Area<'_>, place: usize, name: u32) -> Result<u32, Refusal>
+        requires begun { area.old.progress ≡ beginning_of area.old.round }
+        requires clear { area.old.bytes.now ≡ zeros (size area.old) }
+        requires rooted { Rooted self.now.schema.now area.old.round place name }
+        ensures { Step (λ R n p w. Runs self.now.sheet.now self.now.schema.now R n name) area.old result area.new }
+    {
+        let root = def_at(self.schema, name, place);
+        let writer = Writer {
+            sheet: self.sheet,
+            schema: self.schema,
+            left: 32,
+        };
+        writer.write_struct(area, root, Source::Row(0))?;
+        area.lay(name, root.size as usize)
     }
 }

@@ -1,5 +1,5 @@
 -- A row is done with: the next one, the end, or another round. Assumes nothing.
-use mathlib.Core.Path.{◌≡◌, sym, ap, ◌∙◌}
+use mathlib.Core.Path.{◌≡◌, sym, ap, subst, ◌∙◌}
 use mathlib.Core.Bool.{false}
 use mathlib.Core.List.{List, [], ◌++◌}
 use Prim.Native.Nat.{ℕ, ◌+◌, ◌*◌, ◌-◌, ◌<◌, ◌≤◌}
@@ -11,12 +11,13 @@ use Rattle.numbers.specs.Words.{Bytes, zeros}
 use Rattle.schema.specs.Defs.{Schema}
 use Rattle.layout.specs.State.{Remark, same_remark, thinned, thin}
 use Rattle.layout.specs.Build.{zero_remark, build}
-use Rattle.area.specs.declared.Round.{Round}
 use Rattle.area.specs.Rows.{rows_in}
+use Rattle.area.proofs.Flat.{length_zeros}
 use Rattle.rounds.specs.declared.Stage.{Stage}
+use Rattle.rounds.specs.declared.opening.Opening.{Opening}
 use Rattle.assemble.specs.Packed.{InUse}
 use Rattle.rounds.specs.Run.{Roomy, Rooted, met_in}
-use Rattle.rounds.specs.Merge.{sought_at, row_of, Fit, Left, Judges, Takes}
+use Rattle.rounds.specs.Merge.{sought_at, row_of, Fit, Left, bound, Goes, Judges, Takes}
 use Rattle.turns.specs.Turns.{with_row, Passes}
 use Rattle.rounds.proofs.Standings.{standing, in_use, seen_is, next_within}
 use Rattle.rounds.proofs.Merges.{sought}
@@ -24,7 +25,7 @@ use Rattle.rounds.proofs.Merges.{sought}
 module _ (T F : Bytes) (size room : ℕ) where
   module _ (st : Stage) (w : Bytes) where
     -- the next row
-    pub pass_next : st.row + 1 < st.job.p.rows → Passes T F size room st w (sought_at room (with_row st (st.row + 1)) 0) w
+    pub pass_next : st.row + 1 < st.job.progress.rows → Passes T F size room st w (sought_at room (with_row st (st.row + 1)) 0) w
     pass_next l h zs len left own =
         sought T F size room w (with_row st (st.row + 1)) zs 0
         (record {
@@ -37,45 +38,52 @@ module _ (T F : Bytes) (size room : ℕ) where
         })
 
     -- no row is left: what is left are the remarks from `next` on
-    none_left : st.job.p.rows ≤ st.row + 1 → (zs es : List Remark) → Left es w st (st.row + 1) zs → thinned (take st.count zs) (drop st.job.p.next es) ≡ thin es
+    none_left : st.job.progress.rows ≤ st.row + 1 → (zs es : List Remark) → Left es w st (st.row + 1) zs → thinned (take st.count zs) (drop st.job.progress.next es) ≡ thin es
     unfolding rows_in
     none_left l zs es left =
-        let z : st.job.p.rows - (st.row + 1) ≡ 0 = omega (arith, l) in
-        ap (λ (k : ℕ). thinned (take st.count zs) (rows_in w (32768 + 16 * (st.row + 1)) k ++ drop st.job.p.next es)) (sym z) ∙ left
+        let z : st.job.progress.rows - (st.row + 1) ≡ 0 = omega (arith, l) in
+        ap (λ (k : ℕ). thinned (take st.count zs) (rows_in w (32768 + 16 * (st.row + 1)) k ++ drop st.job.progress.next es)) (sym z) ∙ left
 
     -- .. and no remark
-    pub pass_end : st.job.p.rows ≤ st.row + 1 → st.job.p.seen ≤ st.job.p.next → (r : Stage) → Judges F size st w r → Passes T F size room st w r w
+    pub pass_end : st.job.progress.rows ≤ st.row + 1 → st.job.progress.seen ≤ st.job.progress.next → (r : Stage) (v w' : Bytes) → v ≡ w → w' ≡ v → Judges F size st v r
+        → Passes T F size room st w r w'
     unfolding thinned
-    pass_end l g r judges h zs len left own =
+    pass_end l g r v w' same is judges h zs len left own =
         let es : List Remark = met_in h.stands in
-        let o : drop st.job.p.next es ≡ [] = drop_of_length-le es {i = st.job.p.next} (omega (arith, g, seen_is h.stands)) in
-        let x = judges T room h.stands zs len h.count (ap (thinned (take st.count zs)) (sym o) ∙ none_left l zs es left) in
-        (x.0, omega (arith, x.1))
+        let o : drop st.job.progress.next es ≡ [] = drop_of_length-le es {i = st.job.progress.next} (omega (arith, g, seen_is h.stands)) in
+        let x = (subst (λ (b : Bytes). Judges F size st b r) same judges) T room h.stands zs len h.count (ap (thinned (take st.count zs)) (sym o) ∙ none_left l zs es left) in
+        subst (λ (v : Bytes). Goes T F size room r zs v (bound room (st.job.progress.rows - (st.row + 1)) (st.job.progress.seen - st.job.progress.next) 0)) (sym (is ∙ same)) (x.0, omega (arith, x.1))
 
-    abbrev again : Round
-    again = record { entries = st.job.round.entries; cap = st.job.round.cap; skip = st.job.p.next }
+    abbrev again : Opening
+    again = record {
+      round = record { entries = st.job.opening.round.entries; cap = st.job.opening.round.cap; skip = st.job.progress.next };
+      place = st.job.opening.place;
+      name = st.job.opening.name;
+    }
 
     -- another round can run in the wiped area
-    pub round_again : Fit T F w size room st → (w' : Bytes) → length w' ≡ length w
-        → ((S : Schema) → InUse S st.job.round (length w) st.job.p w → w' ≡ zeros (length w))
-        → Roomy again (length w') × (w' ≡ zeros (length w')) × Rooted F again st.job.place st.job.name
-    round_again h w' lw wipes =
+    pub round_again : Fit T F w size room st → (v w' : Bytes) → w' ≡ v
+        → ((S : Schema) → InUse S st.job.opening.round (length w) st.job.progress w → v ≡ zeros (length w))
+        → Roomy again.round (length w') × (w' ≡ zeros (length w')) × Rooted F again.round again.place again.name
+    round_again h v w' is wipes =
         let k = h.stands.rooted in
-        let s = standing h.stands in (
+        let s = standing h.stands in
+        let z : w' ≡ zeros (length w) = is ∙ wipes k.schema (in_use s.rep) in
+        let lw : length w' ≡ length w = ap length z ∙ length_zeros (length w) in (
           (h.stands.safe.small, omega (arith, h.stands.safe.room, lw)),
-          wipes k.schema (in_use s.rep) ∙ ap zeros (sym lw),
+          z ∙ ap zeros (sym lw),
           record { schema = k.schema; def = k.def; whole = k.whole; entries = k.entries; wins = k.wins; found = k.found },
         )
 
     -- another round
-    pub pass_round : st.job.p.rows ≤ st.row + 1 → (w' : Bytes) → length w' ≡ length w → (r : Stage)
-        → Takes T F size room again st.job.place st.job.name st.count r w'
+    pub pass_round : st.job.progress.rows ≤ st.row + 1 → (w' : Bytes) → length w' ≡ length w → (r : Stage)
+        → Takes T F size room again st.count r w'
         → Passes T F size room st w r w'
     pass_round l w' lw r takes h zs len left own =
         let k = h.stands.rooted in
         let es : List Remark = met_in h.stands in
         let x = takes (record { schema = k.schema; def = k.def; whole = k.whole; entries = k.entries; wins = k.wins; found = k.found })
         (ap (λ (n : ℕ). build T F n size room) lw ∙ h.stands.builds) (next_within h.stands) h.count zs len (none_left l zs es left) in
-        let n : 0 + (length es - st.job.p.next) ≤ st.job.p.rows - (st.row + 1) + (st.job.p.seen - st.job.p.next) = omega (arith, seen_is h.stands) in
-        let p : (0 + (length es - st.job.p.next)) * (room + 1) ≤ (st.job.p.rows - (st.row + 1) + (st.job.p.seen - st.job.p.next)) * (room + 1) = mul-le-mul_right (room + 1) n in
+        let n : 0 + (length es - st.job.progress.next) ≤ st.job.progress.rows - (st.row + 1) + (st.job.progress.seen - st.job.progress.next) = omega (arith, seen_is h.stands) in
+        let p : (0 + (length es - st.job.progress.next)) * (room + 1) ≤ (st.job.progress.rows - (st.row + 1) + (st.job.progress.seen - st.job.progress.next)) * (room + 1) = mul-le-mul_right (room + 1) n in
         (x.0, omega (arith, p, x.1))

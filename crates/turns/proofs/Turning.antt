@@ -23,13 +23,13 @@ use Rattle.rounds.proofs.Thinning.{noted_in, noted_out, found}
 use Rattle.rounds.proofs.Standings.{rows_distinct}
 use Rattle.rounds.proofs.Merges.{turns_seeking, some_left, not_there, sought}
 
-turns_fall : (room : ℕ) (st : Stage) (n : ℕ) → st.last ≡ false → st.row < st.job.p.rows → st.at < room
-    → n ≤ bound room (st.job.p.rows - (st.row + 1)) (st.job.p.seen - st.job.p.next) 0 → n < turns room st
+turns_fall : (room : ℕ) (st : Stage) (n : ℕ) → st.last ≡ false → st.row < st.job.progress.rows → st.at < room
+    → n ≤ bound room (st.job.progress.rows - (st.row + 1)) (st.job.progress.seen - st.job.progress.next) 0 → n < turns room st
 turns_fall room st n l h a b =
-    let m : ℕ = st.job.p.seen - st.job.p.next in
-    let y : ℕ = st.job.p.rows - (st.row + 1) + m in
-    let e : st.job.p.rows - st.row + m ≡ suc y = omega (arith, h) in
-    let p : (st.job.p.rows - st.row + m) * (room + 1) ≡ y * (room + 1) + (room + 1) = ap (λ (k : ℕ). k * (room + 1)) e ∙ suc-mul y (room + 1) in
+    let m : ℕ = st.job.progress.seen - st.job.progress.next in
+    let y : ℕ = st.job.progress.rows - (st.row + 1) + m in
+    let e : st.job.progress.rows - st.row + m ≡ suc y = omega (arith, h) in
+    let p : (st.job.progress.rows - st.row + m) * (room + 1) ≡ y * (room + 1) + (room + 1) = ap (λ (k : ℕ). k * (room + 1)) e ∙ suc-mul y (room + 1) in
     omega (arith, turns_seeking room st l, p, b, a)
 
 module _ (T F : Bytes) (size room : ℕ) where
@@ -37,7 +37,7 @@ module _ (T F : Bytes) (size room : ℕ) where
   module _ (st : Stage) (old : Remark) (w : Bytes) (place : st.at < room) (fit : Fit T F w size room st) where
     -- the record equals the row
     pub step_found : st.at < st.base → same_remark old (row_of w st.row) ≡ true → (r : Stage) (w' : Bytes) → Passes T F size room st w r w'
-        → Steps T F size room st old w (record { st = r; new = old }) w'
+        → Steps T F size room st old w (record { stage = r; new = old }) w'
     step_found h same r w' passes zs len eo inv =
         let m : Merging T F size room st zs w = inv.0 fit.going in
         let es : List Remark = met_in m.fit.stands in
@@ -47,7 +47,7 @@ module _ (T F : Bytes) (size room : ℕ) where
         let lt : st.at < length acc = omega (arith, c, length-take-le st.count zs (omega (arith, fit.count, len))) in
         let mem : remarked x acc ≡ true = found acc x st.at lt (ap (λ (y : Remark). same_remark y x) (get_or-take st.count zs st.at zero_remark c ∙ sym eo) ∙ same) in
         let g = passes m.fit zs len
-        (ap (λ (l : List Remark). thinned l (rows_in w (32768 + 16 * (st.row + 1)) (st.job.p.rows - (st.row + 1)) ++ drop st.job.p.next es)) (sym (noted_in x acc mem))
+        (ap (λ (l : List Remark). thinned l (rows_in w (32768 + 16 * (st.row + 1)) (st.job.progress.rows - (st.row + 1)) ++ drop st.job.progress.next es)) (sym (noted_in x acc mem))
         ∙ some_left w st zs es fit.some m.left)
         (λ k j a b c d. m.own k j a b (omega (arith, c)) d) in (
           subst (λ (l : List Remark). Inv T F size room r l w') (sym (ap (set zs st.at) eo ∙ set-get_or zs st.at zero_remark)) g.0,
@@ -56,7 +56,7 @@ module _ (T F : Bytes) (size room : ℕ) where
 
     -- it does not: the next one
     pub step_next : st.at < st.base → same_remark old (row_of w st.row) ≡ false → (r : Stage) → r ≡ sought_at room st (st.at + 1)
-        → Steps T F size room st old w (record { st = r; new = old }) w
+        → Steps T F size room st old w (record { stage = r; new = old }) w
     step_next h differ r q zs len eo inv =
         let m : Merging T F size room st zs w = inv.0 fit.going in
         let g = sought T F size room w st zs (st.at + 1)
@@ -74,9 +74,6 @@ module _ (T F : Bytes) (size room : ℕ) where
           subst (λ (x : Stage). turns room x < turns room st) (sym q) t,
         )
 
-    pub fit_put : (st.base ≤ st.at → st.at ≡ st.count) → st.base ≤ st.at → Fit T F w size room (with_count st (st.count + 1))
-    fit_put s h = record { stands = fit.stands; going = fit.going; some = fit.some; count = omega (arith, s h, place); base = omega (arith, fit.base) }
-
     -- .. with the row there, none of this round's records is one of the rows behind it
     own_put : (zs : List Remark) → length zs ≡ room → st.at ≡ st.count → (x : Remark) → x ≡ row_of w st.row → Own w st st.row zs
         → Own w (with_count st (st.count + 1)) (st.row + 1) (set zs st.at x)
@@ -93,7 +90,7 @@ module _ (T F : Bytes) (size room : ℕ) where
 
     -- the row is put behind the others
     pub step_put : st.base ≤ st.at → (x : Remark) → x ≡ row_of w st.row → (r : Stage) (w' : Bytes) → Passes T F size room (with_count st (st.count + 1)) w r w'
-        → Steps T F size room st old w (record { st = r; new = x }) w'
+        → Steps T F size room st old w (record { stage = r; new = x }) w'
     step_put h x ex r w' passes zs len eo inv =
         let m : Merging T F size room st zs w = inv.0 fit.going in
         let es : List Remark = met_in m.fit.stands in
@@ -105,7 +102,7 @@ module _ (T F : Bytes) (size room : ℕ) where
         ap (λ (j : ℕ). take j zs') (add-one st.count) ∙ ap (λ (j : ℕ). take (suc st.count) (set zs j x)) a ∙ take-suc-set zs st.count x (omega (arith, a, place, len))
         ∙ sym (noted_out x acc out) ∙ ap (λ (y : Remark). noted y acc) ex in
         let g = passes (record { stands = m.fit.stands; going = fit.going; some = fit.some; count = omega (arith, a, place); base = omega (arith, fit.base) }) zs' (length-set zs st.at x ∙ len)
-        (ap (λ (l : List Remark). thinned l (rows_in w (32768 + 16 * (st.row + 1)) (st.job.p.rows - (st.row + 1)) ++ drop st.job.p.next es)) t
+        (ap (λ (l : List Remark). thinned l (rows_in w (32768 + 16 * (st.row + 1)) (st.job.progress.rows - (st.row + 1)) ++ drop st.job.progress.next es)) t
         ∙ some_left w st zs es fit.some m.left)
         (own_put zs len a x ex m.own) in
         (g.0, turns_fall room st (turns room r) fit.going fit.some place g.1)

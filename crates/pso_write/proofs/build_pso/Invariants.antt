@@ -4,9 +4,9 @@ use lib.ListN.{length}
 use Rattle.rounds.specs.Merge.{Inv, turns}
 use Rattle.pso_write.proofs.build_pso.Given as goal
 
-abbrev pub invariant-loop-st : goal.invariant-loop-st
-invariant-loop-st l =
-    (length l.remarks ≡ l.room) × (length l.work ≡ length l.initial.work) × Inv l.sheet l.schema l.size l.room l.st l.remarks l.work
+abbrev pub invariant-loop-stage : goal.invariant-loop-stage
+invariant-loop-stage l =
+    (length l.remarks ≡ l.task.room) × (length l.work ≡ length l.initial.work) × Inv l.sheet l.schema l.task.size l.task.room l.stage l.remarks l.work
 
-abbrev pub decreases-loop-st : goal.decreases-loop-st
-decreases-loop-st l = turns l.room l.st
+abbrev pub decreases-loop-stage : goal.decreases-loop-stage
+decreases-loop-stage l = turns l.task.room l.stage

@@ -1,22 +1,23 @@
 -- `turns::first` meets its contract. Assumes nothing.
+use Rattle.std.proofs.lemmas.Result.{err_from_is_err_and}
 use mathlib.Core.Path.{◌∙◌}
 use lib.ListN.{length}
 use Rattle.turns.proofs.Endings.{begin_refused, begin_ready, begin_round}
 use Rattle.turns.proofs.first.Goals as goal
 
+pub returns-in_err-opening : goal.returns-in_err-opening
+returns-in_err-opening c =
+    let s = c.args.task.now in
+    let x = err_from_is_err_and c.from_residual.result c.from_residual.ensures.1 in
+    rw (x.1, x.2) (begin_refused s.sheet.now s.schema.now s.size s.room c.args.work.now c.clear.new.s _ c.clear.ensures c.in_err-opening.ensures.opens)
+
 pub take_round-requires : goal.take_round-requires
 take_round-requires c =
-    let a = c.args in
-    begin_ready a.sheet.now a.schema.now a.size a.room a.work.now c.clear.new.s c.in-Ok.o.round c.in-Ok.o.place c.in-Ok.o.name c.clear.ensures c.in-Ok.ensures.opens
+    let s = c.args.task.now in
+    begin_ready s.sheet.now s.schema.now s.size s.room c.args.work.now c.clear.new.s c.in_ok-opening.opening c.clear.ensures c.in_ok-opening.ensures.opens
 
-pub returns-in-Err : goal.returns-in-Err
-returns-in-Err c =
-    let a = c.args in
-    begin_refused a.sheet.now a.schema.now a.size a.room a.work.now c.clear.new.s _ c.clear.ensures c.in-Err.ensures.opens c.no_job.result c.no_job.ensures c.refusal.result (rw (← c.from.ensures) c.refusal.ensures)
-
-pub returns-in-Ok : goal.returns-in-Ok
-returns-in-Ok c =
-    let a = c.args in
+pub returns : goal.returns
+returns c =
+    let s = c.args.task.now in
     let t = c.take_round in
-    begin_round a.sheet.now a.schema.now a.size a.room t.new.work (length a.work.now) c.in-Ok.o.round c.in-Ok.o.place c.in-Ok.o.name (c.work-in-Ok-1.given ∙ c.work-1.given)
-    c.in-Ok.ensures.opens t.result t.ensures
+    begin_round s.sheet.now s.schema.now s.size s.room t.new.work (length c.args.work.now) c.in_ok-opening.opening (t.auto.work ∙ c.clear.auto.s) c.in_ok-opening.ensures.opens t.result t.ensures

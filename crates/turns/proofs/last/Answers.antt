@@ -1,35 +1,38 @@
 -- `turns::last` meets its contract. Assumes nothing.
-use mathlib.Core.Path.{sym, subst}
-use Rattle.area.specs.Posts.{Safe}
-use Rattle.turns.proofs.Endings.{end_unused, end_wiped, some_fitting, end_file}
+use mathlib.Core.Path.{subst}
+use borrow.Author.Rules.{rules}
+use lib.ListN.{length}
+use Rattle.std.proofs.lemmas.Result.{err_from_is_err_and}
+use Rattle.turns.specs.Turns.{Reached}
+use Rattle.turns.proofs.Endings.{end_unbegun, end_wiped, end_file}
 use Rattle.turns.proofs.last.Goals as goal
+use Rattle.turns.proofs.last.Goals.{in-Ok, in-Err}
 
-pub put_file-requires : goal.put_file-requires
-put_file-requires c =
-    let a = c.args in record { safe = (c.requires.well c.if-j.true).safe; some_fitting = some_fitting a.sheet.now a.schema.now a.out.now a.work.now a.room a.st.length a.st.count a.st.job c.requires c.if-j.true }
-
-pub wipe-requires : goal.wipe-requires
-wipe-requires c =
-    let j = c.args.st.job in
-    subst (λ n. Safe j.round n j.p) (sym c.work-1.given) (c.requires.well c.if-j.true).safe
-
-pub returns-then-j : goal.returns-then-j
-returns-then-j c =
+pub returns-in_err-stage : goal.returns-in_err-stage
+returns-in_err-stage c =
     let a = c.args in
-    let f = c.put_file in
-    end_file a.sheet.now a.schema.now a.out.now a.work.now a.room a.st.length a.st.count a.st.job c.requires c.if-j.true
-    f.new.out f.new.work c.wipe.new.work f.ensures c.work-1.given c.wipe.ensures.work_after_2
-
-pub returns-then-j-eq0 : goal.returns-then-j-eq0
-returns-then-j-eq0 c =
-    let a = c.args in
-    end_unused a.sheet.now a.schema.now a.out.now a.work.now a.room a.st.length a.st.count a.st.job c.requires c.if-j.false c.if-j-eq0.true
-
-pub wipe-requires-2 : goal.wipe-requires-2
-wipe-requires-2 c = ((c.requires.rest c.if-j.false).some c.if-j-eq0.false).0
+    let s = a.task.now in
+    let x = err_from_is_err_and c.from_residual.result c.from_residual.ensures.1 in
+    rw (x.1, x.2) (end_unbegun s.sheet.now s.schema.now a.out.now a.work.now s.room _
+    (subst (λ r. Reached s.sheet.now s.schema.now (length a.out.now) s.room r a.work.now) c.in_err-stage.was c.requires))
 
 pub returns : goal.returns
 returns c =
     let a = c.args in
-    end_wiped a.sheet.now a.schema.now a.out.now a.work.now a.room a.st.length a.st.count a.st.job c.requires c.if-j.false c.if-j-eq0.false
-    c.wipe-2.new.work c.wipe-2.ensures.work_after_2
+    let s = a.task.now in
+    let st = c.in_ok-stage.stage in
+    let r = c.area-area.ensures in
+    let h = subst (λ x. Reached s.sheet.now s.schema.now (length a.out.now) s.room x a.work.now) c.in_ok-stage.was c.requires in
+    elim c.match-job.branch [
+      | in-Ok w ↦
+          let f = w.put_file in
+          let e = f.ensures in
+          rw (w.built-is, w.out-is)
+          (end_file s.sheet.now s.schema.now a.out.now a.work.now s.room st.length st.count st.job h w.in-Ok.pointer w.in-Ok.is
+          f.new.out f.new.area.bytes.now c.wipe.new.area.bytes.now _ (search rules) (rw (r.round, r.progress, r.bytes) at e.file) (rw r.bytes at e.same.size)
+          (λ S u. (rw w.area-is at c.wipe.ensures.zero) S (rw (e.same.round, r.round, e.progress, r.progress) u)))
+      | in-Err w ↦
+          rw (w.built-is, w.out-is)
+          (end_wiped s.sheet.now s.schema.now a.out.now a.work.now s.room st.length st.count st.job h w.in-Err.refusal w.in-Err.is
+          c.wipe.new.area.bytes.now _ (search rules) (rw (w.area-is, r.round, r.progress, r.bytes) at c.wipe.ensures.zero))
+    ]
