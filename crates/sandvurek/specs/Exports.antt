@@ -7,12 +7,15 @@ use Rattle.schema.specs.Defs as D
 use Rattle.schema.specs.Psch.{member_at}
 use Rattle.schema.specs.Index.{first_place}
 use Rattle.definitions.specs.Answers.{entry_here}
-use Rattle.definitions.specs.declared.members.Entry as S
+use Rattle.definitions.specs.declared.members.Member as S
+use Rattle.definitions.specs.declared.members.Entry as T
 use Rattle.pso.specs.Reader as R
 use Rattle.pso.specs.Blocks.{numbered, blocks_of}
 use Rattle.schema.specs.declared.kind.Kind.TheVariants.{Structure, Enum}
 use Rattle.pso.specs.Answers.{data_at, definition_at}
 use Rattle.pso.specs.declared.lookup.Definition as P
+use Rattle.pso.specs.declared.parse.Pso.{Pso}
+use Rattle.pso.specs.declared.blocks.Row.{Row}
 use Rattle.layout.specs.State.{Remark}
 use Rattle.layout.specs.Build.{Answer, success, refusal, After}
 use Rattle.sandvurek.specs.declared.Outcome.{Outcome}
@@ -38,6 +41,11 @@ pub record BuildIs (a : After) (r : Outcome) (out : Bytes) (list : List Remark) 
   pub remarks : list ≡ a.remarks
   pub work : area ≡ a.work
 
+-- the reader's answer as numbers
+abbrev pub reading_shows : Result Pso → Reading
+reading_shows (ok p) = record { code = 0; root = p.root; data_at = p.place; data_length = p.len; blocks = p.blocks }
+reading_shows (refused n) = record { code = n; root = 0; data_at = 0; data_length = 0; blocks = 0 }
+
 -- a file's root number, its data section's place and length, the number of its blocks; or the refusal's number
 abbrev pub reading_is : Bytes → Result R.Pso → Reading
 reading_is F (ok p) = record { code = 0; root = p.root; data_at = data_at F; data_length = length p.data'; blocks = length p.blocks }
@@ -46,6 +54,11 @@ reading_is F (refused n) = record { code = n; root = 0; data_at = 0; data_length
 -- .. of a file
 abbrev pub reading_of : Bytes → Reading
 reading_of F = reading_is F (R.parse_pso F)
+
+-- a row's numbers, where there is one
+abbrev pub block_shows : Option Row → Block
+block_shows (Some r) = record { found = 1; name = r.name; place = r.place; length = r.len }
+block_shows None = record { found = 0; name = 0; place = 0; length = 0 }
 
 -- "name, place in PSIN, .. length", where there is a block
 abbrev pub block_is : Option R.Block → Block
@@ -69,6 +82,10 @@ structure_of F name = definition_is (definition_at F Structure (first_place F 0 
 abbrev pub enum_of : Bytes → ℕ → Definition
 enum_of F name = definition_is (definition_at F Enum (first_place F 1 name))
 
+-- a member's numbers
+abbrev pub member_shows : S.Member → Member
+member_shows m = record { name = m.name; kind = m.kind; subtype = m.subtype; offset = m.offset; reference = m.reference }
+
 -- "per member name, type byte, subtype byte, 2-byte offset, reference"
 abbrev pub member_is : D.Member → Member
 member_is m = record { name = m.name; kind = m.type; subtype = m.subtype; offset = m.offset; reference = m.reference }
@@ -78,7 +95,7 @@ abbrev pub member_of : Bytes → ℕ → ℕ → Member
 member_of F at index = member_is (member_at F (at + 12 + 12 * index))
 
 -- "per entry name and value"
-abbrev pub entry_is : S.Entry → Entry
+abbrev pub entry_is : T.Entry → Entry
 entry_is e = record { name = e.name; value = e.value }
 
 -- entry `index`, from 0, of the enum at a place: "or 4 bytes"

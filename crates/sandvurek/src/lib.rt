@@ -2,47 +2,51 @@
 #![tactic(auto)]
 
 ghost use Rattle.std.specs.Prelude.{◌≡◌, length};
+ghost use Rattle.numbers.specs.Refusal as refusals;
 ghost use Rattle.numbers.specs.Result.{ok};
 ghost use Rattle.schema.specs.Defs.{leading};
 ghost use Rattle.pso.specs.Reader.{Pso, parse_pso};
 ghost use Rattle.pso.specs.Blocks.{numbered};
 ghost use Rattle.layout.specs.Build.{build_pso};
 ghost use Rattle.turns.specs.Answers.{answer_of};
-ghost use Rattle.sandvurek.specs.Exports.{outcome_is, BuildIs, reading_of, block_is, block_of, definition_is, structure_of, enum_of, member_of, entry_of, StructIs, EnumIs};
+ghost use Rattle.sandvurek.specs.Exports.{outcome_is, BuildIs, reading_shows, reading_of, block_shows, block_is, block_of, definition_is, structure_of, enum_of, member_shows, member_of, entry_is, entry_of, StructIs, EnumIs};
 
-use definitions::members::{read_entry, read_member};
+use definitions::members::{self, read_entry, read_member};
 use layout::Remark;
-use pso::blocks::block;
+use numbers::refusal::Refusal;
+use pso::blocks::{Row, block};
 use pso::lookup::{Definition as Found, find_definition};
-use pso::parse::parse_pso;
+use pso::parse::{Pso as Parsed, parse_pso};
 use pso_write::build_pso;
 use schema::kind::Kind;
 use turns::Built;
 
+// A caller in C has neither Result nor Option: in all records here a number says which case it is, and what is not there is 0.
+
 // What building gives: code 0, the file's length and the number of remarks; or the refusal's number, and zeros.
 #[repr(C)]
-#[derive(Clone, Copy)]
+#[derive(Clone, Copy, Default)]
 pub struct Outcome {
     pub code: u32,
     pub length: usize,
     pub remarks: usize,
 }
 
-// The packer's answer as numbers.
-fn outcome_of(b: Built) -> Outcome
-    ensures { result ≡ outcome_is (answer_of b) }
-{
-    match b {
-        Built::File(len, count) => Outcome {
-            code: 0,
-            length: len,
-            remarks: count,
-        },
-        Built::Refused(number) => Outcome {
-            code: number,
-            length: 0,
-            remarks: 0,
-        },
+impl From<Result<Built, Refusal>> for Outcome {
+    ghost from_gives = { λ answer r. r ≡ outcome_is (answer_of answer) };
+
+    fn from(answer: Result<Built, Refusal>) -> Self {
+        match answer {
+            Ok(Built { length, remarks }) => Self {
+                code: 0,
+                length,
+                remarks,
+            },
+            Err(reason) => Self {
+                code: reason.into(),
+                ..Self::default()
+            },
+        }
     }
 }
 
@@ -58,14 +62,13 @@ pub extern "C" fn sandvurek_build(
     ensures { BuildIs (build_pso sheet.now schema.now (length work.old) out.old (length remarks.old))
         result out.new remarks.new work.new }
 {
-    let b = build_pso(sheet, schema, work, out, remarks);
-    outcome_of(b)
+    build_pso(sheet, schema, work, out, remarks).into()
 }
 
 // What the reader gives: code 0, the root's block number, where the data section stands in the file and its length, the
 // number of blocks; or the refusal's number, and zeros.
 #[repr(C)]
-#[derive(Clone, Copy)]
+#[derive(Clone, Copy, Default)]
 pub struct Reading {
     pub code: u32,
     pub root: u32,
@@ -74,37 +77,58 @@ pub struct Reading {
     pub blocks: usize,
 }
 
+impl From<Result<Parsed, Refusal>> for Reading {
+    ghost from_gives = { λ answer r. r ≡ reading_shows (refusals.answer_of answer) };
+
+    fn from(answer: Result<Parsed, Refusal>) -> Self {
+        match answer {
+            Ok(pso) => Self {
+                code: 0,
+                root: pso.root,
+                data_at: pso.place,
+                data_length: pso.len,
+                blocks: pso.blocks,
+            },
+            Err(refusal) => Self {
+                code: refusal.into(),
+                ..Self::default()
+            },
+        }
+    }
+}
+
 // Reads a file.
 #[unsafe(no_mangle)]
 pub extern "C" fn sandvurek_read(file: &[u8]) -> Reading
     ensures { result ≡ reading_of file.now }
 {
-    match parse_pso(file) {
-        Ok(pso) => Reading {
-            code: 0,
-            root: pso.root,
-            data_at: pso.place,
-            data_length: pso.len,
-            blocks: pso.blocks,
-        },
-        Err(refusal) => Reading {
-            code: u32::from(refusal),
-            root: 0,
-            data_at: 0,
-            data_length: 0,
-            blocks: 0,
-        },
-    }
+    parse_pso(file).into()
 }
 
 // A block: found 1, its name, its place in the data section and its length; or zeros.
 #[repr(C)]
-#[derive(Clone, Copy)]
+#[derive(Clone, Copy, Default)]
 pub struct Block {
     pub found: u32,
     pub name: u32,
     pub place: u32,
     pub length: u32,
+}
+
+impl From<Option<Row>> for Block {
+    ghost from_gives = { λ row r. r ≡ block_shows row };
+
+    fn from(row: Option<Row>) -> Self {
+        match row {
+            Some(row) => Self {
+                found: 1,
+                name: row.name,
+                place: row.place,
+                length: row.len,
+            },
+            None => Self::default(),
+        }
+    }
 }
 
 // The block of a number, from 1.
@@ -113,26 +137,13 @@ pub extern "C" fn sandvurek_block(file: &[u8], number: usize) -> Block
     ensures value { result ≡ block_of file.now number }
     ensures value_2 { (p : Pso) → parse_pso file.now ≡ ok p → result ≡ block_is (numbered p.blocks number) }
 {
-    match block(file, number) {
-        Some(row) => Block {
-            found: 1,
-            name: row.name,
-            place: row.place,
-            length: row.len,
-        },
-        None => Block {
-            found: 0,
-            name: 0,
-            place: 0,
-            length: 0,
-        },
-    }
+    block(file, number).into()
 }
 
 // A definition: found 1, its unknown byte and size (0 for an enum), how many members or entries it has, its place in the
 // file; or zeros.
 #[repr(C)]
-#[derive(Clone, Copy)]
+#[derive(Clone, Copy, Default)]
 pub struct Definition {
     pub found: u32,
     pub unknown: u32,
@@ -141,25 +152,20 @@ pub struct Definition {
     pub at: usize,
 }
 
-// The answer of a look-up as numbers.
-fn numbers_of(found: Option<Found>) -> Definition
-    ensures { result ≡ definition_is found }
-{
-    match found {
-        Some(d) => Definition {
-            found: 1,
-            unknown: d.unknown as u32,
-            size: d.size,
-            count: d.count,
-            at: d.at,
-        },
-        None => Definition {
-            found: 0,
-            unknown: 0,
-            size: 0,
-            count: 0,
-            at: 0,
-        },
+impl From<Option<Found>> for Definition {
+    ghost from_gives = { λ found r. r ≡ definition_is found };
+
+    fn from(found: Option<Found>) -> Self {
+        match found {
+            Some(d) => Self {
+                found: 1,
+                unknown: d.unknown.into(),
+                size: d.size,
+                count: d.count,
+                at: d.at,
+            },
+            None => Self::default(),
+        }
     }
 }
 
@@ -169,7 +175,7 @@ pub extern "C" fn sandvurek_structure(file: &[u8], name: u32) -> Definition
     ensures value { result ≡ structure_of file.now name }
     ensures struct_is { (p : Pso) → parse_pso file.now ≡ ok p → StructIs file.now result ((leading p.schema).struct name) }
 {
-    numbers_of(find_definition(file, Kind::Structure, name))
+    find_definition(file, Kind::Structure, name).into()
 }
 
 // The enum of a name; the first counts.
@@ -178,7 +184,7 @@ pub extern "C" fn sandvurek_enum(file: &[u8], name: u32) -> Definition
     ensures value { result ≡ enum_of file.now name }
     ensures enum_is { (p : Pso) → parse_pso file.now ≡ ok p → EnumIs file.now result ((leading p.schema).enum name) }
 {
-    numbers_of(find_definition(file, Kind::Enum, name))
+    find_definition(file, Kind::Enum, name).into()
 }
 
 // A member of a structure.
@@ -192,19 +198,26 @@ pub struct Member {
     pub reference: u32,
 }
 
+impl From<members::Member> for Member {
+    ghost from_gives = { λ m r. r ≡ member_shows m };
+
+    fn from(m: members::Member) -> Self {
+        Self {
+            name: m.name,
+            kind: m.kind.into(),
+            subtype: m.subtype.into(),
+            offset: m.offset.into(),
+            reference: m.reference,
+        }
+    }
+}
+
 // The member of a number, from 0, of the structure at a place of the file.
 #[unsafe(no_mangle)]
 pub extern "C" fn sandvurek_member(file: &[u8], at: usize, index: u32) -> Member
     ensures { result ≡ member_of file.now at index }
 {
-    let m = read_member(file, at, index);
-    Member {
-        name: m.name,
-        kind: m.kind as u32,
-        subtype: m.subtype as u32,
-        offset: m.offset as u32,
-        reference: m.reference,
-    }
+    read_member(file, at, index).into()
 }
 
 // An entry of an enum.
@@ -215,14 +228,21 @@ pub struct Entry {
     pub value: u32,
 }
 
+impl From<members::Entry> for Entry {
+    ghost from_gives = { λ e r. r ≡ entry_is e };
+
+    fn from(e: members::Entry) -> Self {
+        Self {
+            name: e.name,
+            value: e.value,
+        }
+    }
+}
+
 // The entry of a number, from 0, of the enum at a place of the file.
 #[unsafe(no_mangle)]
 pub extern "C" fn sandvurek_entry(file: &[u8], at: usize, index: u32) -> Entry
     ensures { result ≡ entry_of file.now at index }
 {
-    let e = read_entry(file, at, index);
-    Entry {
-        name: e.name,
-        value: e.value,
-    }
+    read_entry(file, at, index).into()
 }

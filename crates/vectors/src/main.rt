@@ -10,6 +10,7 @@ ghost use Rattle.turns.specs.Answers.{leaves};
 
 use judge::{NOISE, agrees, is_reading};
 use layout::Remark;
+use numbers::refusal::Refusal;
 use numbers::words::{part_from, part_to, read};
 use pso::parse::{Pso, parse_pso};
 use pso_write::build_pso;
@@ -23,17 +24,14 @@ mod judge;
 // The answer, and all records behind it.
 #[derive(Clone, Copy)]
 pub struct Kept {
-    pub built: Built,
+    pub built: Result<Built, Refusal>,
     pub list: [Remark; 64],
 }
 
-fn keep(b: Built, list: [Remark; 64]) -> Kept
-    ensures { (result.built ≡ b) × (result.list ≡ list) }
+fn keep(built: Result<Built, Refusal>, list: [Remark; 64]) -> Kept
+    ensures { (result.built ≡ built) × (result.list ≡ list) }
 {
-    Kept {
-        built: b,
-        list: list,
-    }
+    Kept { built, list }
 }
 
 // Builds with n of the records lent.
@@ -91,15 +89,16 @@ fn answer(
     work: &[u8],
     out: &[u8],
     n: usize,
-    b: Built,
+    built: Result<Built, Refusal>,
     list: [Remark; 64],
 ) -> io::Result<()> {
-    match b {
-        Built::File(len, count) => {
-            let same = agrees(row, work, out, n, 0, len, count, list);
-            built_line(rt, 0, len, count, same)
+    match built {
+        Ok(Built { length, remarks }) => {
+            let same = agrees(row, work, out, n, 0, length, remarks, list);
+            built_line(rt, 0, length, remarks, same)
         }
-        Built::Refused(code) => {
+        Err(refusal) => {
+            let code = u32::from(refusal);
             let same = agrees(row, work, out, n, code, 0, 0, list);
             built_line(rt, code, 0, 0, same)
         }
@@ -166,6 +165,7 @@ fn one(
 fn rows_of(alloc: Global, all: &[u8]) -> io::Result<Vec<&[u8]>> {
     let mut rows = Vec::new(alloc);
     let mut rest = all;
+    // No `for`: each row says where the next one stands.
     while !rest.is_empty() {
         let len = read::<u32>(rest, 0) as usize;
         if len < 40 {

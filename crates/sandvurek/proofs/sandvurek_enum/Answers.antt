@@ -7,4 +7,5 @@ use Rattle.sandvurek.proofs.sandvurek_enum.Goals as goal
 pub returns : goal.returns
 returns c =
     let a = c.args in
-    record { value = (enum_told a.file.now a.name c.numbers_of.result (c.numbers_of.ensures ∙ ap definition_is c.find_definition.ensures.value)).0; enum_is = (enum_told a.file.now a.name c.numbers_of.result (c.numbers_of.ensures ∙ ap definition_is c.find_definition.ensures.value)).1 }
+    let t = enum_told a.file.now a.name c.into.result (c.into.ensures ∙ ap definition_is c.find_definition.ensures.value) in
+    record { value = t.0; enum_is = t.1 }

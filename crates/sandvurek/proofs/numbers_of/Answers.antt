@@ -1,8 +1,0 @@
--- `sandvurek::numbers_of` meets its contract. Assumes nothing.
-use Rattle.sandvurek.proofs.numbers_of.Goals as goal
-
-pub returns-in-Some : goal.returns-in-Some
-returns-in-Some c = rw c.in-Some.is
-
-pub returns-in-None : goal.returns-in-None
-returns-in-None c = rw c.in-None.is
