@@ -20,7 +20,8 @@ fn first_misfit(s: &[u8]) -> Misfit
         .map_or(Misfit::Unfit, misfit_of)
 }
 
-// Item i of the `count` rows from `first` on as an f32; 0 behind the last.
+// Item i of the `count` rows from `first` on as an f32; 0 behind the last. The rows are two numbers, as the definition
+// `rows_from first count` has them.
 fn item(sheet: &[u8], first: usize, count: usize, i: usize) -> Result<u32, Misfit>
     requires { (first < 2 ^ 40) × (i < 2 ^ 40) }
     ensures { result ≡ Answer.item_at sheet.now first count i }

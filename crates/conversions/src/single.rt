@@ -48,7 +48,7 @@ fn whole_of(p: u32) -> u64
     ensures { result ≡ whole p }
 {
     let e = p >> 23;
-    let c = (p % 0x80_0000 + 0x80_0000) as u64;
+    let c = u64::from(p % 0x80_0000 + 0x80_0000);
     if e < 127 {
         return 0;
     }

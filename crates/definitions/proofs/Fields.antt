@@ -2,14 +2,15 @@
 use mathlib.Core.Path.{◌≡◌, sym, ap, ◌∙◌}
 use mathlib.Core.Logic.{◌⊎◌, inl, inr}
 use Prim.Native.Nat.{ℕ, ◌+◌, ◌-◌, ◌≤◌, ◌<◌, min}
-use native.Mathlib.Nat.{sub-zero, zero-add}
 use native.Mathlib.Omega.{arith}
 use lib.ListN.{length, take, drop, drop_of_length-le}
 use lib.Seq.{drop-drop}
 use Rattle.numbers.specs.Words.{Bytes, number, read_at}
 use Rattle.numbers.proofs.Parts.{split, read_part}
 use Rattle.schema.specs.Psch.{member_at}
-use Rattle.definitions.specs.Answers.{head_here, entry_here}
+use Rattle.definitions.specs.Answers.{head_here, member_is, entry_here}
+use Rattle.definitions.specs.declared.members.Head.{Head}
+use Rattle.definitions.specs.declared.members.Member.{Member}
 
 -- a sum that is cut off lies behind the last byte
 pub from_sum : (F H : Bytes) (s a b : ℕ) → H ≡ drop s F → s ≡ min a 18446744073709551615 → length F ≤ 18446744073709551615 → a ≡ b → H ≡ drop b F
@@ -39,33 +40,22 @@ module _ (P : Bytes) (at : ℕ) where
   pub entry_place : read_at 4 (take (at + 8 - at) (drop at P)) 4 ≡ read_at 4 P (at + 4)
   entry_place = in_entry 4 (omega arith)
 
+-- the numbers that were read in what was cut off behind a place
+module _ (F : Bytes) (at : ℕ) (H G : Bytes) (g : G ≡ drop at F) where
+  pub head_is : (r : Head) → r ≡ head_here H 0 → H ≡ take 8 G → r ≡ head_here F at
+  head_is r e h = rw (e, h, g, read_part 1 F at 8 1 (omega arith), read_part 2 F at 8 2 (omega arith), read_part 4 F at 8 4 (omega arith))
+
+  pub member_here : (r : Member) → r ≡ member_is (member_at H 0) → H ≡ take 12 G → r ≡ member_is (member_at F at)
+  unfolding member_at
+  member_here r e h =
+      let z : at + 0 ≡ at = omega arith in
+      rw (e, h, g, read_part 4 F at 12 0 (omega arith), read_part 1 F at 12 4 (omega arith), read_part 1 F at 12 5 (omega arith), read_part 2 F at 12 6 (omega arith), read_part 4 F at 12 8 (omega arith), z)
+
 module _ (F : Bytes) (at : ℕ) (H : Bytes) (h : H ≡ drop at F) where
   -- read behind the place
   pub behind : (k i : ℕ) → read_at k H i ≡ read_at k F (at + i)
   unfolding read_at
   behind k i = ap (λ (x : Bytes). number 0 (take k x)) (ap (drop i) h ∙ drop-drop i at F)
-
-  -- read in the first n bytes from the place on, where that is all of them
-  within : (n k i : ℕ) → i + k ≤ n → read_at k (take (n - 0) (drop 0 H)) i ≡ read_at k F (at + i)
-  within n k i g = rw sub-zero (read_part k H 0 n i g ∙ ap (read_at k H) (zero-add i) ∙ behind k i)
-
-  pub head_behind : head_here H 0 ≡ head_here F at
-  head_behind = rw (behind 1 (0 + 1), behind 2 (0 + 2), behind 4 (0 + 4))
-
-  pub head_within : head_here (take (8 - 0) (drop 0 H)) 0 ≡ head_here F at
-  head_within = rw (within 8 1 1 (omega arith), within 8 2 2 (omega arith), within 8 4 4 (omega arith))
-
-  pub member_behind : member_at H 0 ≡ member_at F at
-  unfolding member_at
-  member_behind =
-      let z : at + 0 ≡ at = omega arith in
-      rw (behind 4 0, behind 1 4, behind 1 5, behind 2 6, behind 4 8, z)
-
-  pub member_within : member_at (take (12 - 0) (drop 0 H)) 0 ≡ member_at F at
-  unfolding member_at
-  member_within =
-      let z : at + 0 ≡ at = omega arith in
-      rw (within 12 4 0 (omega arith), within 12 1 4 (omega arith), within 12 1 5 (omega arith), within 12 2 6 (omega arith), within 12 4 8 (omega arith), z)
 
   pub entry_is_law : (n v : ℕ) → n ≡ read_at 4 H 0 → v ≡ read_at 4 H 4 → record { name = n; value = v } ≡ entry_here F at
   entry_is_law n v a b =

@@ -3,7 +3,18 @@ use Rattle.std.specs.Prelude.{Option, Some, None, option_map}
 use Rattle.std.specs.Option.{option_or}
 use mathlib.Core.Path.{◌≡◌, refl, sym, ap, ap₂, ◌∙◌}
 use mathlib.Core.Bool.{Bool, true, false}
-use mathlib.Core.List.{[], ◌∷◌, ◌++◌, map}
+use mathlib.Core.List.{List, [], ◌∷◌, ◌++◌, map}
+use denote.Param.Members.{Mut}
+use Rattle.std.specs.Fn.{Called}
+use Rattle.std.specs.Iterator.{FindsMapped, Yields}
+use Rattle.std.specs.Iterator.Adapters.{rev_source, rev_steps}
+use Rattle.std.specs.Iterator.Runs.{Run, SomeRun, YieldsRun, AllItemsGive, IsFirstToGive}
+use Rattle.std.specs.Prelude.{slice_get, IfSome, IsTrue}
+use Rattle.std.specs.List.{FoldsTo}
+use Rattle.std.specs.Option.{MatchOption}
+use Rattle.std.specs.Range.{range_steps_back}
+use Rattle.std.specs.declared.ops.Range.{Range}
+use Rattle.std.specs.declared.iter.Rev.{Rev}
 use mathlib.Core.Logic.{◌⊎◌, inl, inr}
 use Prim.Native.Nat.{ℕ, zero, suc, ◌+◌, ◌-◌, ◌*◌, ◌≤◌, ◌<◌}
 use native.Mathlib.Nat.{zero-add, suc-add}
@@ -83,6 +94,54 @@ module _ (P : Bytes) (kind name : ℕ) where
       let a : n - i ≡ n = omega arith in
       let b : 12 + 8 * i ≡ 12 = omega arith in
       sym (ap last_of (ap₂ (places_from P kind name) (sym a) (sym b) ∙ g))
+
+  -- over the range of the n entries from its end: the calls of f on those that are passed over, and the last
+  module _ (n : ℕ) {F : Type 0} (g : Mut F (ℕ × Unit {0}) (Option ℕ)) (f : F) (tells : (i : ℕ) (o : Option ℕ) (q : F) → Called g f (i, tt) o q → (q ≡ f) × (o ≡ given (leads_to P kind name (12 + 8 * i)) (read_at 4 P (12 + 8 * i + 4)))) where
+    abbrev Steps : Rev (Range ℕ) → Option ℕ → Rev (Range ℕ) → Type 0
+    Steps = rev_steps (range_steps_back (λ a b. b - a) (λ a b. b ≡ a + 1))
+
+    abbrev Behind : ℕ → Type 0
+    Behind i = (i ≤ n) × (places_from P kind name (n - i) (12 + 8 * i) ≡ [])
+
+    abbrev till : Rev (Range ℕ) → ℕ
+    till s = (rev_source s).end
+
+    abbrev since : Rev (Range ℕ) → ℕ
+    since s = (rev_source s).start
+
+    last_mapped : (xs : List ℕ) (s t u : Rev (Range ℕ)) (e : F) (o : Option ℕ) (q : ℕ) → since s ≡ 0 → Behind (till s) → Yields Steps s xs t → Steps t o u
+        → FoldsTo (λ p x q. Called g p (x, tt) None q) f xs e → MatchOption o (Some q ≡ None) (λ x. (h : F) × Called g e (x, tt) (Some q) h) → Some q ≡ last_of (places_from P kind name n 12)
+    last_mapped [] s t u e None q k l y z c m = m ∙ last_none n (till s) (omega (arith, k, z.1.0, ap since y, ap till y)) l.1
+    last_mapped [] s t u e (Some x) q k l y z c m =
+        let w = tells x (Some q) m.0 (rw c m.1) in
+        let b : x ≡ till s - 1 = omega (arith, z.1.1, z.1.2, ap till y) in
+        last_hit n (till s) (omega (arith, z.1.2, ap till y)) l.0 l.1 q (rw (← b) w.1)
+    last_mapped (x ∷ xs) s t u e o q k l (j, a, y) z (d, v, c) m =
+        let w = tells x None d v in
+        let b : x ≡ till s - 1 = omega (arith, a.1.1, a.1.2) in
+        let b' : till j ≡ till s - 1 = omega (arith, a.1.2) in
+        last_mapped xs j t u e o q (a.0 ∙ k) (omega (arith, a.1.2, l.0), rw b' (last_miss n (till s) (omega (arith, a.1.2)) l.0 l.1 (rw (← b) w.1))) y z (rw (← w.0) c) m
+
+    all_miss : (xs : List ℕ) (s t u : Rev (Range ℕ)) → since s ≡ 0 → Behind (till s) → Yields Steps s xs t → Steps t None u
+        → ((k : ℕ) → IfSome (slice_get xs k) (λ x. Called g f (x, tt) None f)) → None ≡ last_of (places_from P kind name n 12)
+    all_miss [] s t u k l y z h = last_none n (till s) (omega (arith, k, z.1.0, ap since y, ap till y)) l.1
+    all_miss (x ∷ xs) s t u k l (j, a, y) z h =
+        let w = tells x None f (h 0) in
+        let b : x ≡ till s - 1 = omega (arith, a.1.1, a.1.2) in
+        let b' : till j ≡ till s - 1 = omega (arith, a.1.2) in
+        all_miss xs j t u (a.0 ∙ k) (omega (arith, a.1.2, l.0), rw b' (last_miss n (till s) (omega (arith, a.1.2)) l.0 l.1 (rw (← b) w.1))) y z (λ i. h (suc i))
+
+    run_miss : (p : Run Steps) → since p.from ≡ 0 → Behind (till p.from) → p.whole ≡ true → AllItemsGive p g f None → None ≡ last_of (places_from P kind name n 12)
+    unfolding YieldsRun
+    run_miss p a b w h =
+        let d = p.gave.0.2 w in
+        all_miss p.items p.from p.gave.0.0 d.0 a b p.gave.0.1 d.1 (λ k. rw (← p.gave.1 k) (h (λ x r q c. (tells x.0 r q c).0) k))
+
+    pub last_maps : (s u : Rev (Range ℕ)) (r : Option ℕ) → since s ≡ 0 → till s ≡ n → FindsMapped Steps g s f r u
+        → SomeRun Steps s (λ p. MatchOption r (IsTrue p.whole × AllItemsGive p g f None) (λ y. (i : ℕ) × (i < p.len) × (p.len ≡ i + 1) × IsFirstToGive p g f (Some y) None i))
+        → r ≡ last_of (places_from P kind name n 12)
+    last_maps s u None a b h (p, e, w) = run_miss p (ap since e ∙ a) (rw (e, b) (omega arith, none_behind n)) w.0 w.1
+    last_maps s u (Some q) a b (xs, o, e, (t, y, z), c, m) w = last_mapped xs s t u e o q a (rw b (omega arith, none_behind n)) y z c m
 
 -- ---- a section
 module _ (P : Bytes) (kind name : ℕ) (t : Bool) (e : t ≡ eqb (read_at 4 P 0) PSCH) where

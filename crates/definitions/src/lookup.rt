@@ -46,15 +46,14 @@ fn last_in(section: Section, kind: Kind, name: u32) -> Option<usize>
     if !section.is(b"PSCH") {
         return None;
     }
-    for i in (0..index_count(section.bytes)).rev() {
-        if let Some(place) = place_at(section.bytes, 12 + 8 * i, kind, name) {
-            return Some(section.place + place);
-        }
-    }
-    None
+    (0..index_count(section.bytes))
+        .rev()
+        .find_map(|i| place_at(section.bytes, 12 + 8 * i, kind, name))
+        .map(|place| section.place + place)
 }
 
-// The place in the file of the definition of a kind that a name stands for when building.
+// The place in the file of the definition of a kind that a name stands for when building. File, kind and name stand side by side, here and in
+// pso: a struct of what is looked for would be made for one call.
 pub fn find(file: &[u8], kind: Kind, name: u32) -> Option<usize>
     ensures result_value { result ≡ last_place file.now (kind_number kind) name }
     ensures structure_value { kind ≡ Kind.Structure → (S : Schema) → schema_of file.now ≡ ok S → (winning S).struct name ≡ struct_found file.now name result }

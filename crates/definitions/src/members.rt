@@ -1,10 +1,24 @@
 // What stands at a definition's place: its numbers, its members or entries. Where the file ends before, they are 0.
-ghost use Rattle.std.specs.Prelude.{◌≡◌, ◌+◌, ◌*◌, ◌^◌, ◌<◌};
+ghost use Rattle.std.specs.Prelude.{◌≡◌, ◌+◌, ◌*◌, ◌^◌, ◌<◌, take};
+ghost use Rattle.std.specs.Fn.{FnReturnsAt};
 ghost use Rattle.numbers.specs.Words.{read_at};
 ghost use Rattle.schema.specs.Psch.{member_at};
 ghost use Rattle.definitions.specs.Answers.{head_here, member_is, entry_here};
 
 use numbers::words::{part_from, read, read_number};
+
+// `parse` of the first `len` bytes that stand here, or of all, where there are fewer. A slice that has `len` bytes is tested
+// once, and `parse` then reads each of its fields without a test.
+#[inline]
+fn parsed<T, F: Fn(&[u8]) -> T>(here: &[u8], len: usize, parse: F) -> T
+    requires { F.IsAlwaysCallable parse }
+    ensures { FnReturnsAt F.Fn parse (take len here.now) result }
+{
+    if here.len() < len {
+        return parse(here);
+    }
+    parse(&here[..len])
+}
 
 // A structure's numbers besides its members.
 #[derive(Clone, Copy)]
@@ -26,16 +40,16 @@ fn head_of(bytes: &[u8]) -> Head
     }
 }
 
-// The numbers of the structure at a place. One test where all of them are there.
+// The numbers of the structure at a place.
+#[tactic(auto, using(crate::proofs::Fields::head_is))]
 pub fn read_head(file: &[u8], place: usize) -> Head
     ensures { result ≡ head_here file.now place }
 {
-    let here = part_from(file, place);
-    if here.len() < 8 {
-        return head_of(here);
-    }
-    head_of(&here[..8])
+    parsed(part_from(file, place), 8, head_of)
 }
+
+// The name of a member that describes an array's elements and is never written.
+pub const ARRAYINFO: u32 = 0x100;
 
 #[derive(Clone, Copy)]
 pub struct Member {
@@ -61,15 +75,12 @@ fn member_of(bytes: &[u8]) -> Member
     }
 }
 
-// The member k of the structure at a place. One test where all of it is there.
+// The member k of the structure at a place.
 pub fn read_member(file: &[u8], place: usize, k: u32) -> Member
     ensures { result ≡ member_is (member_at file.now (place + 12 + 12 * k)) }
 {
-    let here = part_from(file, place.saturating_add(12 + 12 * (k as usize)));
-    if here.len() < 12 {
-        return member_of(here);
-    }
-    member_of(&here[..12])
+    let at = place.saturating_add(12 + 12 * (k as usize));
+    parsed(part_from(file, at), 12, member_of)
 }
 
 // How many entries the enum at a place has.

@@ -3,7 +3,7 @@
 
 // A remark: what is wrong with a member of a structure. Four numbers, since callers in C lend a list of these.
 #[repr(C)]
-#[derive(Clone, Copy, Debug, PartialEq, Eq)]
+#[derive(Clone, Copy, Debug, Default, PartialEq, Eq)]
 pub struct Remark {
     pub kind: u32,
     pub structure: u32,

@@ -29,7 +29,7 @@ use texts::float::parses_float;
 use texts::text::trim;
 use value::read_row;
 
-// An answer's record has a code and a value. An exported function cannot have a generic record yet, so each value's type has its own.
+// An answer's record has a code and a value. An exported function cannot have a generic record, so each value's type has its own.
 #[repr(C)]
 #[derive(Clone, Copy)]
 pub struct Unsigned {
@@ -252,7 +252,7 @@ pub extern "C" fn leaf_hash_of(sheet: &[u8], r: usize) -> Small
         .into()
 }
 
-// The count entries at `at` of the schema. A place of 2^63 or more, or a count of 2^24 or more, does not fit.
+// The `count` entries at `at` of the schema. A place of 2^63 or more, or a count of 2^24 or more, does not fit.
 fn entries_in(schema: &[u8], at: usize, count: usize) -> Result<Entries<'_>, Misfit>
     ensures { Codes.AreEntries schema.now at count result }
 {
@@ -278,7 +278,8 @@ pub extern "C" fn leaf_enum_value(
         .into()
 }
 
-// The n entries stand at `at` of the schema. A place of 2^63 or more, or a count of 2^24 or more, gives code 1.
+// The n entries stand at `at` of the schema. A place of 2^63 or more, or a count of 2^24 or more, gives code 1. Two functions of
+// one shape, as each is an exported name of C, which has no generic functions.
 #[unsafe(no_mangle)]
 pub extern "C" fn leaf_flags_bits(
     sheet: &[u8],

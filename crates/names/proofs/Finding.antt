@@ -1,31 +1,34 @@
 -- The first entry with a name. Assumes nothing.
-use Rattle.std.specs.Prelude.{◌≡◌, ℕ, suc, ◌+◌, ◌-◌, ◌*◌, ◌≤◌, ◌<◌, List, Some, None}
+use Rattle.std.specs.Prelude.{◌≡◌, ℕ, zero, suc, ◌+◌, ◌*◌, Bool, true, false, List, map, Option, find, option_map, eqb}
+use Rattle.std.specs.List.{range_with_len}
+use mathlib.Core.Path.{refl}
 use native.Mathlib.Omega.{arith}
-use borrow.Author.Tests.{eq-eqb, ne_eqb}
 use Rattle.numbers.specs.Words.{Bytes, read_at}
 use Rattle.schema.specs.Psch.{entries_at}
 use Rattle.schema.specs.Defs.{first_entry}
 
--- the entries from i on, of n from a place on
-abbrev pub rest : Bytes → ℕ → ℕ → ℕ → List (ℕ × ℕ)
-rest F at n i = entries_at F (n - i) (at + 8 * i)
+module _ (F : Bytes) (at name : ℕ) where
+  -- where n entries start, from the i-th on
+  abbrev pub starts : ℕ → ℕ → List ℕ
+  starts i n = map (λ (k : ℕ). at + 8 * k) (range_with_len i n)
 
-module _ (F : Bytes) (at n i name : ℕ) where
-  module _ (h : i < n) where
-    split : n - i ≡ suc (n - (i + 1))
-    split = omega arith
+  abbrev pub has_name : ℕ → Bool
+  has_name p = eqb (read_at 4 F p) name
 
-    next : at + 8 * i + 8 ≡ at + 8 * (i + 1)
-    next = omega arith
+  abbrev pub value : Option ℕ → Option ℕ
+  value = option_map (λ (p : ℕ). read_at 4 F (p + 4))
 
-    pub entry_here : read_at 4 F (at + 8 * i) ≡ name → first_entry (rest F at n i) name ≡ Some (read_at 4 F (at + 8 * i + 4))
-    unfolding first_entry entries_at
-    entry_here e = rw split (rw (eq-eqb (read_at 4 F (at + 8 * i)) name e, first_entry))
-
-    pub entry_next : (read_at 4 F (at + 8 * i) ≡ name → ⊥) → first_entry (rest F at n i) name ≡ first_entry (rest F at n (i + 1)) name
-    unfolding first_entry entries_at
-    entry_next e = rw split (rw (ne_eqb (read_at 4 F (at + 8 * i)) name e, first_entry, next))
-
-  pub entry_none : n ≤ i → first_entry (rest F at n i) name ≡ None
+  found : (i n : ℕ) → value (find has_name (starts i n)) ≡ first_entry (entries_at F n (at + 8 * i)) name
   unfolding first_entry entries_at
-  entry_none h = let z : n - i ≡ 0 = omega arith in rw z
+  found i zero = refl
+  found i (suc n) =
+      let next : at + 8 * (i + 1) ≡ at + 8 * i + 8 = omega arith in
+      by (has_name (at + 8 * i)) refl (rw next at (found (i + 1) n))
+    where
+      by : (b : Bool) → has_name (at + 8 * i) ≡ b → value (find has_name (starts (i + 1) n)) ≡ first_entry (entries_at F n (at + 8 * i + 8)) name
+          → value (find has_name (starts i (suc n))) ≡ first_entry (entries_at F (suc n) (at + 8 * i)) name
+      by true q e = rw (q, first_entry)
+      by false q e = rw (q, first_entry) e
+
+  pub value_found : (n : ℕ) → value (find has_name (starts 0 n)) ≡ first_entry (entries_at F n at) name
+  value_found n = let z : at + 8 * 0 ≡ at = omega arith in rw z at (found 0 n)

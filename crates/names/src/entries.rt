@@ -34,12 +34,9 @@ impl<'a> Entries<'a> {
     pub fn value_of(self, name: u32) -> Option<u32>
         ensures { result ≡ first_entry (all_of self.entry) name }
     {
-        for i in 0..self.count {
-            let at = self.at + 8 * i;
-            if read::<u32>(self.schema, at) == name {
-                return Some(read::<u32>(self.schema, at + 4));
-            }
-        }
-        None
+        (0..self.count)
+            .map(|i| self.at + 8 * i)
+            .find(|&at| read::<u32>(self.schema, at) == name)
+            .map(|at| read::<u32>(self.schema, at + 4))
     }
 }

@@ -26,10 +26,10 @@ fn flag_part(entries: Entries, p: &[u8]) -> Result<u32, Misfit>
     if p.is_empty() {
         return Ok(0);
     }
-    match entries.value_of(hash_of_str(p)) {
-        Some(x) => Ok(bit_of(x)),
-        None => Err(Misfit::Unfit),
-    }
+    entries
+        .value_of(hash_of_str(p))
+        .map(bit_of)
+        .ok_or(Misfit::Unfit)
 }
 
 // The bits of all names in a text.

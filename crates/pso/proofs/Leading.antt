@@ -1,10 +1,19 @@
 -- The loops that find the first definition of a name. Assumes nothing.
-use Rattle.std.specs.Prelude.{Option, Some, None, is_some, option_map}
+use Rattle.std.specs.Prelude.{Option, Some, None, option_map}
 use mathlib.Core.Logic.{◌⊎◌, inl, inr}
 use Rattle.std.specs.Option.{option_or}
 use mathlib.Core.Path.{◌≡◌, refl, sym, ap, ap₂, ◌∙◌}
 use mathlib.Core.Bool.{Bool, true, false}
-use mathlib.Core.List.{◌++◌, map}
+use mathlib.Core.List.{List, [], ◌∷◌, ◌++◌, map}
+use denote.Param.Members.{Mut}
+use Rattle.std.specs.Fn.{Called}
+use Rattle.std.specs.Iterator.{FindsMapped, Yields}
+use Rattle.std.specs.Iterator.Runs.{Run, SomeRun, YieldsRun, AllItemsGive, IsFirstToGive}
+use Rattle.std.specs.Prelude.{slice_get, IfSome, IsTrue}
+use Rattle.std.specs.List.{FoldsTo}
+use Rattle.std.specs.Option.{MatchOption}
+use Rattle.std.specs.Range.{range_steps}
+use Rattle.std.specs.declared.ops.Range.{Range}
 use Prim.Native.Nat.{ℕ, suc, ◌+◌, ◌-◌, ◌*◌, ◌≤◌, ◌<◌}
 use native.Mathlib.Omega.{arith}
 use lib.ListN.{length}
@@ -25,14 +34,6 @@ use Rattle.pso.specs.Reader.{Pso, parse_pso}
 use Rattle.pso.specs.Answers.{definition_at, struct_defined, enum_defined}
 use Rattle.pso.specs.declared.lookup.Definition.{Definition}
 
-some_or : (r o : Option ℕ) → is_some r ≡ true → r ≡ option_or r o
-some_or (Some x) o e = refl
-some_or None o e = cc
-
-none_or : (r o : Option ℕ) → is_some r ≡ false → o ≡ option_or r o
-none_or (Some x) o e = cc
-none_or None o e = refl
-
 -- the definition at a place is the one that its numbers are of
 struct_same : (F : Bytes) (name : ℕ) (o : Option ℕ) → struct_found F name o ≡ struct_defined F name (definition_at F Structure o)
 struct_same F name (Some at) = refl
@@ -44,7 +45,7 @@ enum_same F name None = refl
 
 -- ---- the index entries of a section, from the first on
 module _ (P : Bytes) (kind name n : ℕ) where
-  abbrev wanted : Option ℕ
+  abbrev pub wanted : Option ℕ
   wanted = first_of (places_from P kind name n 12)
 
   -- what is left of the index leads to the same end
@@ -86,6 +87,39 @@ module _ (P : Bytes) (kind name n : ℕ) where
       let z : n - i ≡ 0 = omega arith in
       sym (ap (λ (x : ℕ). first_of (places_from P kind name x (12 + 8 * i))) z) ∙ g
 
+  -- over the range of the entries: the calls of f on those that are passed over, and the last
+  module _ {F : Type 0} (g : Mut F (ℕ × Unit {0}) (Option ℕ)) (f : F) (tells : (i : ℕ) (o : Option ℕ) (q : F) → Called g f (i, tt) o q → (q ≡ f) × (o ≡ given (leads_to P kind name (12 + 8 * i)) (read_at 4 P (12 + 8 * i + 4)))) where
+    abbrev Steps : Range ℕ → Option ℕ → Range ℕ → Type 0
+    Steps = range_steps (λ a b. b - a) (λ a b. b ≡ a + 1)
+
+    first_mapped : (xs : List ℕ) (s t u : Range ℕ) (e : F) (o : Option ℕ) (q : ℕ) → s.end ≡ n → Left s.start → Yields Steps s xs t → Steps t o u
+        → FoldsTo (λ p x q. Called g p (x, tt) None q) f xs e → MatchOption o (Some q ≡ None) (λ x. (h : F) × Called g e (x, tt) (Some q) h) → Some q ≡ wanted
+    first_mapped [] s t u e None q k l y z c m = m ∙ first_none s.start (omega (arith, k, z.1.0, ap (λ (x : Range ℕ). x.start) y, ap (λ (x : Range ℕ). x.end) y)) l
+    first_mapped [] s t u e (Some x) q k l y z c m =
+        let w = tells x (Some q) m.0 (rw c m.1) in
+        first_hit s.start (omega (arith, k, z.1.0, ap (λ (x : Range ℕ). x.start) y, ap (λ (x : Range ℕ). x.end) y)) l q (rw (ap (λ (x : Range ℕ). x.start) y, ← z.1.1) w.1)
+    first_mapped (x ∷ xs) s t u e o q k l (j, a, y) z (d, b, c) m =
+        let w = tells x None d b in
+        first_mapped xs j t u e o q (a.0 ∙ k) (rw a.1.2 (first_miss s.start (omega (arith, k, a.1.0)) l (rw (← a.1.1) w.1))) y z (rw (← w.0) c) m
+
+    all_miss : (xs : List ℕ) (s t u : Range ℕ) → s.end ≡ n → Left s.start → Yields Steps s xs t → Steps t None u
+        → ((k : ℕ) → IfSome (slice_get xs k) (λ x. Called g f (x, tt) None f)) → None ≡ wanted
+    all_miss [] s t u k l y z h = first_none s.start (omega (arith, k, z.1.0, ap (λ (x : Range ℕ). x.start) y, ap (λ (x : Range ℕ). x.end) y)) l
+    all_miss (x ∷ xs) s t u k l (j, a, y) z h =
+        let w = tells x None f (h 0) in
+        all_miss xs j t u (a.0 ∙ k) (rw a.1.2 (first_miss s.start (omega (arith, k, a.1.0)) l (rw (← a.1.1) w.1))) y z (λ i. h (suc i))
+
+    run_miss : (p : Run Steps) → p.from.start ≡ 0 → p.from.end ≡ n → p.whole ≡ true → AllItemsGive p g f None → None ≡ wanted
+    unfolding YieldsRun
+    run_miss p a b w h =
+        let d = p.gave.0.2 w in
+        all_miss p.items p.from p.gave.0.0 d.0 b (rw a first_start) p.gave.0.1 d.1 (λ k. rw (← p.gave.1 k) (h (λ x r q c. (tells x.0 r q c).0) k))
+
+    pub first_maps : (s u : Range ℕ) (r : Option ℕ) → s.start ≡ 0 → s.end ≡ n → FindsMapped Steps g s f r u
+        → SomeRun Steps s (λ p. MatchOption r (IsTrue p.whole × AllItemsGive p g f None) (λ y. (i : ℕ) × (i < p.len) × (p.len ≡ i + 1) × IsFirstToGive p g f (Some y) None i)) → r ≡ wanted
+    first_maps s u None a b h (p, e, w) = run_miss p (ap (λ (x : Range ℕ). x.start) e ∙ a) (ap (λ (x : Range ℕ). x.end) e ∙ b) w.0 w.1
+    first_maps s u (Some q) a b (xs, o, e, (t, y, z), c, m) w = first_mapped xs s t u e o q b (rw a first_start) y z c m
+
 -- ---- the sections of a file
 module _ (F : Bytes) (kind name : ℕ) where
   -- the sections that are left, the first of them at `at`, lead to the same end
@@ -111,11 +145,11 @@ module _ (F : Bytes) (kind name : ℕ) where
         ap (λ (x : Option ℕ). option_or x behind) (q ∙ sym (first_map (place +◌) ps)) ∙ sym (first_append (map (place +◌) ps) (places_of kind name ss next))
         ∙ ap₂ (λ x y. first_of (map (x +◌) ps ++ places_of kind name ss y)) here on ∙ g.same
 
-    pub found : is_some r ≡ true → r ≡ first_place F kind name
-    found x = some_or r _ x ∙ turn
+    pub found : (a : ℕ) → r ≡ Some a → Some a ≡ first_place F kind name
+    found a x = rw x at turn
 
-    pub goes_on : is_some r ≡ false → Going ss next
-    goes_on x = record { same = none_or r _ x ∙ turn }
+    pub goes_on : r ≡ None → Going ss next
+    goes_on x = record { same = rw x at turn }
 
 -- ---- the answers
 pub defines : (F : Bytes) (kind : Kind) (name : ℕ) (o : Option ℕ) (r : Option Definition) → o ≡ first_place F (kind_number kind) name → r ≡ definition_at F kind o

@@ -13,7 +13,7 @@ use numbers::refusal::Refusal;
 use numbers::words::read;
 use schema::cursor::{Cursor, Section};
 
-// The rows of a PMAP section: where they start in it, and how many there are.
+// What a PMAP section says: its root number, where its rows start in it, and how many there are.
 #[derive(Clone, Copy)]
 pub struct Rows {
     pub root: u32,
@@ -34,9 +34,9 @@ pub fn read_rows(p: &[u8]) -> Result<Rows, Refusal>
     ensures { answer_of result ≡ table_of p.now }
 {
     let (start, count) = if is_later(p) {
-        (24, read::<u16>(p, 16) as usize)
+        (24, usize::from(read::<u16>(p, 16)))
     } else {
-        (16, read::<u16>(p, 12) as usize)
+        (16, usize::from(read::<u16>(p, 12)))
     };
     if p.len() < start + 16 * count {
         return Err(Refusal::MapLength);

@@ -21,12 +21,9 @@ fn first_in(section: Section, kind: Kind, name: u32) -> Option<usize>
     if !section.is(b"PSCH") {
         return None;
     }
-    for i in 0..index_count(section.bytes) {
-        if let Some(place) = place_at(section.bytes, 12 + 8 * i, kind, name) {
-            return Some(section.place + place);
-        }
-    }
-    None
+    (0..index_count(section.bytes))
+        .find_map(|i| place_at(section.bytes, 12 + 8 * i, kind, name))
+        .map(|place| section.place + place)
 }
 
 // The first definition of a kind and a name in a file.
@@ -35,9 +32,8 @@ fn first(file: &[u8], kind: Kind, name: u32) -> Option<usize>
 {
     let mut cursor = Cursor::new(file);
     while let Some((section, next)) = cursor.step().unwrap_or(None) {
-        let found = first_in(section, kind, name);
-        if found.is_some() {
-            return found;
+        if let Some(place) = first_in(section, kind, name) {
+            return Some(place);
         }
         cursor = next;
     }
@@ -66,7 +62,7 @@ pub fn find_definition(file: &[u8], kind: Kind, name: u32) -> Option<Definition>
             Definition {
                 unknown: head.unknown,
                 size: head.size,
-                count: head.count as u32,
+                count: u32::from(head.count),
                 at,
             }
         }

@@ -20,31 +20,6 @@ struct State<'a> {
     blocks: usize,
 }
 
-// One section; other names are passed over.
-fn see<'a>(section: Section<'a>, s: State<'a>) -> Result<State<'a>, Refusal>
-    requires { s.blocks ≤ section.place }
-    ensures { Sees section.entry s.entry result }
-{
-    if section.is(b"PSIN") {
-        return Ok(State {
-            body: Some(section),
-            ..s
-        });
-    }
-    if section.is(b"PMAP") {
-        let rows = read_rows(section.bytes)?;
-        return Ok(State {
-            root: Some(rows.root),
-            blocks: s.blocks + rows.count,
-            ..s
-        });
-    }
-    if section.is(b"PSCH") {
-        check_psch(section.bytes)?;
-    }
-    Ok(s)
-}
-
 // What the reader gives: the root number, where the data section stands in the file and its length, and the number of blocks.
 #[derive(Clone, Copy)]
 pub struct Pso {
@@ -54,26 +29,53 @@ pub struct Pso {
     pub blocks: usize,
 }
 
-// What the sections left, or what is missing.
-fn finish(s: State) -> Result<Pso, Refusal>
-    ensures { answer_of result ≡ finish_is s.entry }
-{
-    let body = s.body.ok_or(Refusal::NoData)?;
-    let root = s.root.ok_or(Refusal::NoMap)?;
-    Ok(Pso {
-        root,
-        place: body.place,
-        len: body.bytes.len(),
-        blocks: s.blocks,
-    })
+impl<'a> State<'a> {
+    // After one more section; other names are passed over.
+    fn see(self, section: Section<'a>) -> Result<Self, Refusal>
+        requires { self.blocks ≤ section.place }
+        ensures { Sees section.entry self.entry result }
+    {
+        if section.is(b"PSIN") {
+            return Ok(State {
+                body: Some(section),
+                ..self
+            });
+        }
+        if section.is(b"PMAP") {
+            let rows = read_rows(section.bytes)?;
+            return Ok(State {
+                root: Some(rows.root),
+                blocks: self.blocks + rows.count,
+                ..self
+            });
+        }
+        if section.is(b"PSCH") {
+            check_psch(section.bytes)?;
+        }
+        Ok(self)
+    }
+
+    // What the sections left, or what is missing.
+    fn finish(self) -> Result<Pso, Refusal>
+        ensures { answer_of result ≡ finish_is self.entry }
+    {
+        let body = self.body.ok_or(Refusal::NoData)?;
+        let root = self.root.ok_or(Refusal::NoMap)?;
+        Ok(Pso {
+            root,
+            place: body.place,
+            len: body.bytes.len(),
+            blocks: self.blocks,
+        })
+    }
 }
 
-// `parse_pso`.
+// Reads a file, section by section: what they leave, or the first refusal.
 pub fn parse_pso(file: &[u8]) -> Result<Pso, Refusal>
     ensures file_value { map_result shown (parse_pso file.now) ≡ map_result (shown_at file.now) (answer_of result) }
     ensures value { answer_of result ≡ map_result (answered file.now) (parse_pso file.now) }
 {
-    if file.len() < 4 || !is_name(file, 0, b"PSIN") {
+    if !is_name(file, 0, b"PSIN") {
         return Err(Refusal::Magic);
     }
     let mut cursor = Cursor::new(file);
@@ -83,8 +85,8 @@ pub fn parse_pso(file: &[u8]) -> Result<Pso, Refusal>
         blocks: 0,
     };
     while let Some((section, next)) = cursor.step()? {
-        state = see(section, state)?;
+        state = state.see(section)?;
         cursor = next;
     }
-    finish(state)
+    state.finish()
 }

@@ -1,5 +1,5 @@
 -- What the contracts of single steps say: of the cursor, and of one definition.
-use Rattle.std.specs.Prelude.{ℕ, ◌+◌, ◌-◌, ◌≤◌, ◌≡◌, cond, eqb, length, take, drop, Option, Some, None, Ok, Err}
+use Rattle.std.specs.Prelude.{ℕ, ◌+◌, ◌-◌, ◌≤◌, ◌<◌, ◌≡◌, cond, eqb, length, take, drop, Option, Some, None, Ok, Err}
 use Rattle.std.specs.Prelude as Rust
 use Rattle.numbers.specs.Words.{Bytes, read_at}
 use Rattle.numbers.specs.Result.{Result, map_result}
@@ -46,6 +46,10 @@ Reach c (Err e) = e ≡ SectionLength
 abbrev pub kind_number : Kind → ℕ
 kind_number Structure = 0
 kind_number Enum = 1
+
+-- r is the kind with this top byte, or says that no kind has it
+abbrev pub Decodes : ℕ → Rust.Result Kind (Unit {0}) → Type 0
+Decodes n r = Rust.MatchResult r (λ k. kind_number k ≡ n) (λ e. 1 < n)
 
 -- the definition of kind k (0 a structure, 1 an enum) at a place
 abbrev pub def_here : Bytes → ℕ → ℕ → ℕ → Def

@@ -28,19 +28,19 @@ fn kind_at(p: &[u8], at: usize) -> Result<Kind, Refusal>
     ensures { (name : ℕ) → def_at p.now name at ≡ judged p.now name at result }
 {
     within(p, 1, at + 4)?;
-    match read::<u8>(p, at) {
-        0 => {
+    match Kind::try_from(read::<u8>(p, at)) {
+        Ok(Kind::Structure) => {
             within(p, 1, at + 8)?;
-            let n = read::<u16>(p, at + 2) as usize;
+            let n = usize::from(read::<u16>(p, at + 2));
             within(p, n, at + 12 + 12 * n)?;
             Ok(Kind::Structure)
         }
-        1 => {
+        Ok(Kind::Enum) => {
             let n = read_number(p, at + 1, 3) as usize;
             within(p, n, at + 4 + 8 * n)?;
             Ok(Kind::Enum)
         }
-        _ => Err(Refusal::TopByte),
+        Err(()) => Err(Refusal::TopByte),
     }
 }
 

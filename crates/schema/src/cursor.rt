@@ -28,8 +28,8 @@ impl<'a> Section<'a> {
 // a walk is a `while let`.
 #[derive(Clone, Copy)]
 pub struct Cursor<'a> {
-    file: &'a [u8],
-    at: usize,
+    pub file: &'a [u8],
+    pub at: usize,
 }
 
 impl<'a> Cursor<'a> {

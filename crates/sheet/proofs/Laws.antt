@@ -1,12 +1,13 @@
 -- The sheet's layout, one row at a time. Assumes nothing.
 use Rattle.std.specs.Prelude.{Result, Ok, Err, fold}
+use Rattle.std.specs.List.{range_with_len, list_all}
 use mathlib.Core.Path.{◌≡◌, refl, sym, ap, ◌∙◌}
 use mathlib.Core.Bool.{Bool, true, false, cond, ◌&&◌}
 use mathlib.Core.List.{[], ◌∷◌}
-use Prim.Native.Nat.{ℕ, suc, ◌+◌, ◌-◌, ◌≤◌, ◌<◌, max}
+use Prim.Native.Nat.{ℕ, zero, suc, ◌+◌, ◌-◌, ◌≤◌, ◌<◌, max}
 use native.Mathlib.Numerals.{add-one}
 use native.Mathlib.Omega.{arith}
-use borrow.Author.Tests.{eq-eqb, ne_eqb, leb-true, ltb-true, ltb-false, lt-ltb, le-ltb}
+use borrow.Author.Tests.{leb-true, ltb-true, ltb-false, lt-ltb, le-ltb}
 use lib.Dec.{eqb, leb, ltb}
 use lib.ListN.{length}
 use Rattle.numbers.specs.Words.{Bytes}
@@ -23,29 +24,16 @@ use Rattle.numbers.specs.declared.refusal.Refusal.TheVariants as R
 
 -- ---- rows with no name
 
-nameless_step : (T : Bytes) (r n : ℕ) → eqb (row T r).name 0 ≡ true → nameless T r (suc n) ≡ nameless T (suc r) n
+-- n rows from r on
+pub nameless_is : (T : Bytes) (r n : ℕ) → list_all (λ (q : ℕ). eqb (row T q).name 0) (range_with_len r n) ≡ nameless T r n
 unfolding nameless
-nameless_step T r n q = rw (q, nameless)
-
-nameless_stop : (T : Bytes) (r n : ℕ) → eqb (row T r).name 0 ≡ false → nameless T r (suc n) ≡ false
-unfolding nameless
-nameless_stop T r n q = rw (q, nameless)
-
--- n rows from r on, of which there are some, or none
-module _ (T : Bytes) (r n : ℕ) where
-  pub nameless_next : 0 < n → (row T r).name ≡ 0 → nameless T r n ≡ nameless T (r + 1) (n - 1)
-  nameless_next h e =
-      let q : n ≡ suc (n - 1) = omega arith in
-      ap (nameless T r) q ∙ nameless_step T r (n - 1) (eq-eqb (row T r).name 0 e) ∙ ap (λ (x : ℕ). nameless T x (n - 1)) (sym (add-one r))
-
-  pub nameless_not : 0 < n → ((row T r).name ≡ 0 → ⊥) → nameless T r n ≡ false
-  nameless_not h e =
-      let q : n ≡ suc (n - 1) = omega arith in
-      ap (nameless T r) q ∙ nameless_stop T r (n - 1) (ne_eqb (row T r).name 0 e)
-
-  pub nameless_all : n ≡ 0 → nameless T r n ≡ true
-  unfolding nameless
-  nameless_all h = rw h
+nameless_is T r zero = refl
+nameless_is T r (suc n) = by (eqb (row T r).name 0) refl (rw add-one at (nameless_is T (r + 1) n))
+  where
+    by : (b : Bool) → eqb (row T r).name 0 ≡ b → list_all (λ (q : ℕ). eqb (row T q).name 0) (range_with_len (suc r) n) ≡ nameless T (suc r) n
+        → list_all (λ (q : ℕ). eqb (row T q).name 0) (range_with_len r (suc n)) ≡ nameless T r (suc n)
+    by true q e = rw (q, add-one, nameless) e
+    by false q e = rw (q, nameless)
 
 -- ---- the walk
 
@@ -110,11 +98,12 @@ module _ (T : Bytes) (n r : ℕ) (w : Walk) (v : Row) (e : n ≡ row_count T) (f
       let k' : names_fit T w.claimed (row T r) ≡ true = rw (← f) k in
       rw (q, y, f) (walks_step T (n - (r + 1)) r w (rw (g', k')) ∙ ap (λ (x : ℕ). walks T (n - (r + 1)) x (after w r (row T r))) (sym (add-one r)))
 
-pub walk_done : (T : Bytes) (n r : ℕ) (w : Walk) (t : Bytes) → n ≡ row_count T → t ≡ text_area T → n ≤ r → walks T (n - r) r w ≡ (eqb w.claimed n && eqb w.texts (length t))
+-- all n rows are walked
+pub walk_done : (T : Bytes) (n r : ℕ) (w : Walk) → n ≡ row_count T → n ≤ r → walks T (n - r) r w ≡ (eqb w.claimed n && eqb w.texts (length (text_area T)))
 unfolding walks
-walk_done T n r w t e f h =
+walk_done T n r w e h =
     let q : n - r ≡ 0 = omega arith in
-    rw (q, e, f)
+    rw (q, e)
 
 -- ---- the check
 

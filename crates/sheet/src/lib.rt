@@ -11,7 +11,8 @@ use numbers::refusal::Refusal;
 use value::kind::Kind;
 use value::{Row, name_of, read_row, row_count, text_area};
 
-// A row's number as the walk holds it, at most 16,384. Its width can change here alone: `number_of` and `count_of` convert it.
+// A row's number as the walk holds it, at most 16,384. It is a type of its own, since document 02 (2.3) asks for another width
+// of it than other crates' counts of rows have.
 pub type RowNumber = usize;
 
 // A count of rows as a row number.
@@ -44,15 +45,13 @@ fn fields_used(kind: Kind) -> u8
 }
 
 // Whether the fields that the row's kind does not use are 0.
+#[tactic(auto, unfolding(crate::specs::Layout::rest_zero))]
 fn rest_zero(kind: Kind, v: Row) -> bool
     requires { number_of_kind kind ≡ v.kind }
     ensures { result ≡ Layout.rest_zero v }
 {
     let n = fields_used(kind);
-    ((1 <= n) | (v.a == 0))
-        & ((2 <= n) | (v.b == 0))
-        & ((3 <= n) | (v.c == 0))
-        & ((4 <= n) | (v.d == 0))
+    (1 <= n || v.a == 0) && (2 <= n || v.b == 0) && (3 <= n || v.c == 0) && (4 <= n || v.d == 0)
 }
 
 // Whether a number is within its kind's width.
@@ -72,13 +71,13 @@ fn within_width(kind: Kind, v: Row) -> bool
 }
 
 // Whether a row is sound by itself.
+#[tactic(auto, using(crate::proofs::Laws::known), unfolding(crate::specs::Layout::row_sound))]
 fn row_sound(v: Row) -> bool
     ensures { result ≡ Layout.row_sound v }
 {
-    match Kind::try_from(v.kind) {
-        Ok(kind) => (v.zero3 == 0) & rest_zero(kind, v) & within_width(kind, v),
-        Err(_) => false,
-    }
+    Kind::try_from(v.kind).is_ok_and(|kind| {
+        v.zero3 == 0 && rest_zero(kind, v) && within_width(kind, v)
+    })
 }
 
 // Whether n rows from r on have no name.
@@ -86,12 +85,7 @@ fn nameless(sheet: &[u8], r: usize, n: usize) -> bool
     requires { r + n < 2 ^ 40 }
     ensures { result ≡ Layout.nameless sheet.now r n }
 {
-    for child in r..r + n {
-        if name_of(sheet, child) != 0 {
-            return false;
-        }
-    }
-    true
+    (r..r + n).all(|child| name_of(sheet, child) == 0)
 }
 
 // Whether the children of v, from row r on, have names only where v is a Struct.
@@ -193,6 +187,7 @@ impl Walk {
 }
 
 // The walk over the n rows.
+#[tactic(auto, using(crate::proofs::Laws::walk_done))]
 fn walks(sheet: &[u8], n: usize) -> bool
     requires { (n ≡ Rows.row_count sheet.now) × (n ≤ 16384) }
     ensures { result ≡ Layout.walks sheet.now n 0 Layout.begin }
@@ -206,7 +201,7 @@ fn walks(sheet: &[u8], n: usize) -> bool
         }
         w = w.after(r, v);
     }
-    (count_of(w.claimed) == n) & (w.texts == text_area(sheet).len())
+    count_of(w.claimed) == n && w.texts == text_area(sheet).len()
 }
 
 // Whether the row count and the lengths of rows and text area are right.

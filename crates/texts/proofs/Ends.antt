@@ -1,8 +1,10 @@
 -- Trimming a list from its two ends, one element at a time. Assumes nothing.
-use mathlib.Core.Path.{◌≡◌, refl, ap}
+use Rattle.std.specs.Prelude.{Option, Some, None, MatchOption}
+use mathlib.Core.Path.{◌≡◌, refl, sym, ap}
 use mathlib.Core.Bool.{Bool, true, false, not}
 use mathlib.Core.List.{List, [], ◌∷◌}
-use Prim.Native.Nat.{ℕ, zero, suc, ◌<◌}
+use Prim.Native.Nat.{ℕ, zero, suc, ◌+◌, ◌≤◌, ◌<◌}
+use native.Mathlib.Numerals.{add-one}
 use native.Mathlib.Omega.{arith}
 use lib.ListN.{length, get_or, take, drop}
 use Rattle.texts.specs.Text.{space, trim_start, trim_end}
@@ -35,16 +37,27 @@ start_is (b ∷ l) = by (space b) refl (start_is l) where
 -- ---- the end
 
 -- nothing but white space
-pub blank : (s : List ℕ) → ((k : ℕ) → k < length s → space (get_or s k 0) ≡ true) → trim_end s ≡ []
+blank : (s : List ℕ) → ((k : ℕ) → k < length s → space (get_or s k 0) ≡ true) → trim_end s ≡ []
 unfolding trim_end
 blank [] h = refl
 blank (b ∷ l) h = rw (blank l (λ k g. h (suc k) (omega arith)), h 0 (omega arith))
 
 -- the last that is no white space
-pub end_is : (s : List ℕ) (i : ℕ) → i < length s → space (get_or s i 0) ≡ false → ((k : ℕ) → i < k → k < length s → space (get_or s k 0) ≡ true)
+end_is : (s : List ℕ) (i : ℕ) → i < length s → space (get_or s i 0) ≡ false → ((k : ℕ) → i < k → k < length s → space (get_or s k 0) ≡ true)
     → take (suc i) s ≡ trim_end s
 unfolding trim_end
 end_is [] i l q h = absurd (omega arith)
 end_is (b ∷ s) zero l q h = rw (blank s (λ k g. h (suc k) (omega arith) (omega arith)), q)
 end_is (b ∷ c ∷ s) (suc i) l q h = rw (← end_is (c ∷ s) i (omega arith) q (λ k g m. h (suc k) (omega arith) (omega arith)))
 end_is (b ∷ []) (suc i) l q h = absurd (omega arith)
+
+-- behind the last that is no white space, if there is one, is the end
+module _ (s : List ℕ) where
+  abbrev pub Blank : ℕ → Type 0
+  Blank k = k < length s → space (get_or s k 0) ≡ true
+
+  pub ended : (r : Option ℕ) (n : ℕ) → MatchOption r (n ≡ 0) (λ i. n ≡ i + 1) → (r ≡ None → (k : ℕ) → Blank k)
+      → ((i : ℕ) → r ≡ Some i → i < length s) → ((i : ℕ) → r ≡ Some i → space (get_or s i 0) ≡ false) → ((i : ℕ) → r ≡ Some i → (k : ℕ) → i < k → Blank k)
+      → (n ≤ length s) × (take n s ≡ trim_end s)
+  ended None n e z l h k = rw e (omega arith, sym (blank s (z refl)))
+  ended (Some i) n e z l h k = rw (e, add-one) (omega (arith, l i refl), end_is s i (l i refl) (h i refl) (k i refl))

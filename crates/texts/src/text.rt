@@ -20,10 +20,7 @@ fn start_of(s: &[u8]) -> usize
 fn end_of(s: &[u8]) -> usize
     ensures { (result ≤ length s.now) × (take result s.now ≡ trim_end s.now) }
 {
-    match s.iter().rposition(|&b| !is_space(b)) {
-        Some(i) => i + 1,
-        None => 0,
-    }
+    s.iter().rposition(|&b| !is_space(b)).map_or(0, |i| i + 1)
 }
 
 // The part of `s` without the white space at both ends: the middle of the caller's slice, never a copy. std's trim_ascii leaves byte 11.

@@ -1,7 +1,7 @@
 // The kinds of a row.
 ghost use Rattle.value.specs.Kind.{Decodes};
 
-// What a row holds; the paper's number is the variant's, from 0.
+// What a row holds; document 01's number is the variant's, from 0.
 #[derive(Clone, Copy, Debug, PartialEq, Eq)]
 pub enum Kind {
     Null,

@@ -1,29 +1,16 @@
 -- `sheet::nameless` meets its contract. Assumes nothing.
-use mathlib.Core.Path.{◌≡◌, sym, ap, ◌∙◌}
-use Prim.Native.Nat.{◌+◌, ◌-◌}
+use mathlib.Core.Path.{refl, ◌∙◌}
 use native.Mathlib.Omega.{arith}
-use Rattle.sheet.specs.Layout
-use Rattle.sheet.proofs.Laws
+use Rattle.std.specs.Prelude.{eqb, ◌+◌}
+use Rattle.std.proofs.Common.{rules, tests}
+use Rattle.std.proofs.lemmas.Iterator.{YieldsList-from_range}
+use Rattle.std.proofs.lemmas.Iterator.Search.{all_from_yields_List}
+use Rattle.value.specs.Rows.{row}
+use Rattle.sheet.proofs.Laws.{nameless_is}
 use Rattle.sheet.proofs.nameless.Goals as goal
 
-pub loop-child-init : goal.loop-child-init
-loop-child-init c =
-    let a = c.args in
-    let q : a.r + a.n - a.r ≡ a.n = omega arith in
-    ap (Layout.nameless a.sheet.now a.r) q
-
-pub returns-then-name_of-ne0 : goal.returns-then-name_of-ne0
-returns-then-name_of-ne0 c =
-    sym (Laws.nameless_not _ c.loop-child.child _ (omega (arith, c.loop-child-test.true)) (λ e. c.if-name_of-ne0.true (c.name_of.ensures ∙ e))) ∙ c.loop-child.invariant
-
-pub loop-child-preserved : goal.loop-child-preserved
-loop-child-preserved c =
-    let a = c.args in
-    let r = c.loop-child.child in
-    let q : a.r + a.n - (r + 1) ≡ a.r + a.n - r - 1 = omega arith in
-    ap (Layout.nameless a.sheet.now (r + 1)) q
-    ∙ sym (Laws.nameless_next _ r _ (omega (arith, c.loop-child-test.true)) (sym c.name_of.ensures ∙ c.if-name_of-ne0.false))
-    ∙ c.loop-child.invariant
-
 pub returns : goal.returns
-returns c = sym (Laws.nameless_all _ c.loop-child.child _ (omega (arith, c.loop-child-test.false))) ∙ c.loop-child.invariant
+returns c =
+    let a = c.args in
+    all_from_yields_List (λ q. eqb (row a.sheet.now q).name 0) _ _ c.all.result c.all.ensures.ran (YieldsList-from_range a.r (a.r + a.n) a.n refl (omega arith)) (λ x b q k. search (rules, tests))
+    ∙ nameless_is a.sheet.now a.r a.n

@@ -44,10 +44,3 @@ loop-i-preserved c =
       sym (Laws.walk_next a.sheet.now a.n l.i l.w v.result c.requires.0 v.ensures h x t
           (ap (λ y. Layout.names_fit a.sheet.now y v.result) (sym c.count_of.ensures) ∙ sym c.names_fit.ensures ∙ c.if-not-names_fit.false) e) ∙ l.invariant.3,
     )
-
-pub returns : goal.returns
-returns c =
-    let a = c.args in
-    let l = c.loop-i in
-    rw c.count_of-2.ensures
-    (sym (Laws.walk_done a.sheet.now a.n l.i l.w c.text_area.result.now c.requires.0 c.text_area.ensures (omega (arith, c.loop-i-test.false))) ∙ l.invariant.3)

@@ -8,7 +8,7 @@ pub returns-then-e-lt127 : goal.returns-then-e-lt127
 returns-then-e-lt127 c = sym (whole_none c.args.p (omega arith))
 
 pub returns-then-e-lt150 : goal.returns-then-e-lt150
-returns-then-e-lt150 c = whole_mid c.args.p (omega arith) (omega arith)
+returns-then-e-lt150 c = rw c.from-c.ensures (whole_mid c.args.p (omega arith) (omega arith))
 
 pub returns-else-e-lt150 : goal.returns-else-e-lt150
-returns-else-e-lt150 c = whole_big c.args.p (omega arith) c.requires
+returns-else-e-lt150 c = rw c.from-c.ensures (whole_big c.args.p (omega arith) c.requires)

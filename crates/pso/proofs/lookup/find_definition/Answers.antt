@@ -11,7 +11,7 @@ returns-in_err-at c =
 pub returns-in-Structure : goal.returns-in-Structure
 returns-in-Structure c =
     let a = c.args in
-    defines a.file.now a.kind a.name (Some c.in_ok-at.at) _ c.in_ok-at.ensures (rw (c.in-Structure.is, c.read_head-head.ensures))
+    defines a.file.now a.kind a.name (Some c.in_ok-at.at) _ c.in_ok-at.ensures (rw (c.in-Structure.is, c.from.ensures, c.read_head-head.ensures))
 
 pub returns-in-Enum : goal.returns-in-Enum
 returns-in-Enum c =

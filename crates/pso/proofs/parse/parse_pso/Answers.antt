@@ -5,18 +5,11 @@ use lib.ListN.{length}
 use Rattle.schema.proofs.Errors.{passed_on}
 use Rattle.schema.proofs.Walk.{onward, ended}
 use Rattle.pso.proofs.Place.{lies_there, placed_first, placed_turn, refusal_is, answer_is}
-use Rattle.pso.proofs.Sight.{first, no_name, bad_name, parse_end, parse_broken, parse_refused, parse_turn}
+use Rattle.pso.proofs.Sight.{first, bad_name, parse_end, parse_broken, parse_refused, parse_turn}
 use Rattle.pso.proofs.parse.parse_pso.Goals as goal
-use Rattle.pso.proofs.parse.parse_pso.Goals.{then-file-lt4-via-then-file-lt4, then-file-lt4-via-else-file-lt4+then-not-is_name}
 
-pub returns-then-file-lt4 : goal.returns-then-file-lt4
-returns-then-file-lt4 c =
-    let F = c.args.file.now in
-    refusal_is F 15
-    (elim c.then-file-lt4.branch [
-      | then-file-lt4-via-then-file-lt4 w ↦ no_name F w.if-file-lt4.true
-      | then-file-lt4-via-else-file-lt4+then-not-is_name w ↦ bad_name F w.if-file-lt4.false w.is_name.result (w.is_name.ensures.number (omega arith)) w.if-not-is_name.true
-    ])
+pub returns-then-not-is_name : goal.returns-then-not-is_name
+returns-then-not-is_name c = refusal_is c.args.file.now 15 (bad_name c.args.file.now c.is_name.result c.is_name.ensures c.if-not-is_name.true)
 
 pub loop-section-init : goal.loop-section-init
 loop-section-init c =
@@ -30,7 +23,7 @@ returns-in_err-section c =
     let l = c.loop-section in
     let h = c.in_err-section.ensures in
     rw (← passed_on _ c.in_err-section.field-0.0 c.from_residual.ensures.1, h.1)
-    (refusal_is F 4 (parse_broken F c.if-file-lt4.false c.is_name.result (c.is_name.ensures.number (omega arith)) c.if-not-is_name.false l.state (rw h.0 at l.invariant.3)))
+    (refusal_is F 4 (parse_broken F c.is_name.result c.is_name.ensures c.if-not-is_name.false l.state (rw h.0 at l.invariant.3)))
 
 pub returns-in_err-state : goal.returns-in_err-state
 returns-in_err-state c =
@@ -39,7 +32,7 @@ returns-in_err-state c =
     let i = l.invariant in
     let o = onward l.cursor _ c.in-Some.section c.in-Some.next c.in_ok-section.ensures c.in-Some.is in
     rw (← passed_on _ c.in_err-state.field-0.0 c.from_residual-in_err-state.ensures.1)
-    (refusal_is F _ (parse_refused F c.if-file-lt4.false c.is_name.result (c.is_name.ensures.number (omega arith)) c.if-not-is_name.false l.state c.in-Some.section _ (rw o.left at i.3) _ c.in_err-state.ensures))
+    (refusal_is F _ (parse_refused F c.is_name.result c.is_name.ensures c.if-not-is_name.false l.state c.in-Some.section _ (rw o.left at i.3) _ c.in_err-state.ensures))
 
 pub see-requires : goal.see-requires
 see-requires c =
@@ -72,4 +65,4 @@ returns c =
     let e = ended l.cursor _ c.in_ok-section.ensures c.in_default.is in
     let g = rw e at l.invariant.4 in
     answer_is F l.cursor.at l.state g _ c.finish.ensures
-    (parse_end F c.if-file-lt4.false c.is_name.result (c.is_name.ensures.number (omega arith)) c.if-not-is_name.false l.state (rw e at l.invariant.3) g.lies _ c.finish.ensures)
+    (parse_end F c.is_name.result c.is_name.ensures c.if-not-is_name.false l.state (rw e at l.invariant.3) g.lies _ c.finish.ensures)

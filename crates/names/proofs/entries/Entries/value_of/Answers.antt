@@ -1,21 +1,20 @@
 -- `names::entries::Entries::value_of` meets its contract. Assumes nothing.
 use mathlib.Core.Path.{sym, ap, ◌∙◌}
-use Rattle.std.specs.Prelude.{Some}
-use Rattle.names.proofs.Finding
+use native.Mathlib.Omega.{arith}
+use Rattle.std.specs.Prelude.{◌≡◌}
+use Rattle.std.proofs.Common.{rules, tests}
+use Rattle.std.proofs.lemmas.Iterator.{YieldsList-from_range, YieldsList-from_map}
+use Rattle.std.proofs.lemmas.Iterator.Search.{find_from_yields_List}
+use Rattle.std.proofs.lemmas.Iterator.Adapters.{option_map_id}
+use Rattle.names.proofs.Finding.{has_name, value, value_found}
 use Rattle.names.proofs.entries.Entries.value_of.Goals as goal
-
-pub returns-then-read-name : goal.returns-then-read-name
-returns-then-read-name c =
-    let s = c.args.self in
-    let h = c.read.ensures in
-    ap Some c.read-then-read-name.ensures ∙ sym (Finding.entry_here s.schema.now s.at s.count c.loop-i.i c.args.name c.loop-i-test.true (sym h ∙ c.if-read-name.true)) ∙ c.loop-i.invariant
-
-pub loop-i-preserved : goal.loop-i-preserved
-loop-i-preserved c =
-    let s = c.args.self in
-    sym (Finding.entry_next s.schema.now s.at s.count c.loop-i.i c.args.name c.loop-i-test.true (λ e. c.if-read-name.false (c.read.ensures ∙ e))) ∙ c.loop-i.invariant
 
 pub returns : goal.returns
 returns c =
     let s = c.args.self in
-    sym (Finding.entry_none s.schema.now s.at s.count c.loop-i.i c.args.name c.loop-i-test.false) ∙ c.loop-i.invariant
+    let F = s.schema.now in
+    let n = c.args.name in
+    let m : c.map-2.result ≡ value F s.at n c.find.result = search (rules, tests) in
+    let road = YieldsList-from_map _ _ (YieldsList-from_range 0 s.count _ c.map.ensures.source (omega arith)) c.map.ensures.closure (λ x r q k. search (rules, tests)) in
+    let f = find_from_yields_List (has_name F s.at n) _ _ c.find.result c.find.ensures.ran road (λ x b q k. search (rules, tests)) in
+    m ∙ ap (value F s.at n) (sym (option_map_id c.find.result) ∙ f) ∙ value_found F s.at n s.count
