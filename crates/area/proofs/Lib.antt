@@ -1,6 +1,7 @@
 -- Laws of the work area.
 pub mod Over
 pub mod Flat
+pub mod Anys
 pub mod Remarks
 pub mod Names
 pub mod Spots

@@ -1,10 +1,11 @@
 -- A paste in a list of parts. Assumes nothing.
 use mathlib.Core.Path.{◌≡◌, refl, sym, ap, ◌∙◌}
 use mathlib.Core.List.{List, [], ◌∷◌, ◌++◌, append_assoc, append-nil}
-use Prim.Native.Nat.{ℕ, ◌+◌, ◌*◌, ◌≤◌}
+use Prim.Native.Nat.{ℕ, ◌+◌, ◌*◌, ◌≤◌, ◌<◌}
+use native.Mathlib.Numerals.{add-one}
 use native.Mathlib.Omega.{arith}
-use lib.ListN.{length, take, drop, length-append, length-drop, drop_of_length-le}
-use lib.Seq.{take-append-le, drop-append-le, take-append-add, drop-append-add, drop-drop, length-take-le}
+use lib.ListN.{length, get_or, take, drop, length-append, length-drop, drop_of_length-le}
+use lib.Seq.{take-suc, take-append-le, drop-append-le, take-append-add, drop-append-add, drop-drop, length-take-le}
 use Rattle.numbers.specs.Words.{Bytes, bytes_of, words, over}
 use Rattle.numbers.proofs.Bytes.{length_words}
 
@@ -87,3 +88,12 @@ words_behind l k j at to ms ns e h f g =
     let q : to ≡ at + length (words ms) = omega (arith, length_words ms) in
     g ∙ ap (λ (x : Bytes). over x to (words ns)) f ∙ ap (λ (p : ℕ). over (over l at (words ms)) p (words ns)) q
     ∙ over_seq l at (words ms) (words ns) (omega arith) ∙ ap (over l at) (sym (words_append ms ns))
+
+-- one number more, stored behind the first i
+pub words_next : (l k j : Bytes) (at i : ℕ) (ns : List ℕ) → i < length ns → at + 4 * length ns ≤ length l → k ≡ over l at (words (take i ns))
+    → j ≡ over k (at + 4 * i) (bytes_of 4 (get_or ns i 0)) → j ≡ over l at (words (take (i + 1) ns))
+words_next l k j at i ns t h f g =
+    let x = get_or ns i 0 in
+    let n = length-take-le i ns (omega arith) in
+    rw (add-one, take-suc ns i 0 t)
+    (words_behind l k j at (at + 4 * i) (take i ns) (x ∷ []) (omega (arith, n)) (omega arith) f (rw words_one g))

@@ -1,16 +1,18 @@
 -- The remarks that a round keeps, and the rows that hold them. Assumes nothing.
 use mathlib.Core.Path.{◌≡◌, refl, ap, ◌∙◌}
-use mathlib.Core.Bool.{true, false, cond}
 use mathlib.Core.List.{List, [], ◌∷◌, ◌++◌, append_assoc, append-nil}
-use Prim.Native.Nat.{ℕ, zero, suc, ◌+◌, ◌-◌, ◌*◌, ◌≤◌, ◌<◌}
+use Prim.Native.Nat.{ℕ, zero, suc, ◌+◌, ◌*◌}
+use native.Mathlib.Nat.{add-zero}
 use native.Mathlib.Omega.{arith}
 use lib.ListN.{length, length-append}
+use Rattle.std.specs.List.{list_any, range_with_len}
 use Rattle.numbers.specs.Words.{Bytes, words, read_at, Stands, Below}
 use Rattle.numbers.specs.Result.{Every}
 use Rattle.numbers.proofs.Bytes.{left, next, word_at, length_words}
 use Rattle.layout.specs.State.{Remark, same_remark, remarked}
 use Rattle.area.specs.Kept.{Kept, meet, meets, kept, row_bytes, rows_bytes}
 use Rattle.area.specs.Rows.{row_in, rows_in, Tiny}
+use Rattle.area.proofs.Anys.{or_cond}
 
 meets_snoc : (skip : ℕ) (k : Kept) (es : List Remark) (r : Remark) → meets skip k (es ++ (r ∷ [])) ≡ meet skip (meets skip k es) r
 unfolding meets
@@ -54,20 +56,17 @@ unfolding rows_in
 length_rows_in w at zero = refl
 length_rows_in w at (suc n) = ap suc (length_rows_in w (at + 16) n)
 
--- a loop over the rows, i of them looked at
-module _ (w : Bytes) (at n : ℕ) (r : Remark) where
-  pub rows_next : (i : ℕ) → i < n → remarked r (rows_in w (at + 16 * i) (n - i)) ≡ cond (same_remark (row_in w (at + 16 * i)) r) true (remarked r (rows_in w (at + 16 * (i + 1)) (n - (i + 1))))
-  unfolding rows_in remarked
-  rows_next i h =
-      let e : n - i ≡ suc (n - (i + 1)) = omega arith in
-      let f : at + 16 * i + 16 ≡ at + 16 * (i + 1) = omega arith in
-      ap (λ (k : ℕ). remarked r (rows_in w (at + 16 * i) k)) e ∙ ap (λ (k : ℕ). cond (same_remark (row_in w (at + 16 * i)) r) true (remarked r (rows_in w k (n - (i + 1))))) f
+-- whether one of the rows holds the remark
+any_from : (w : Bytes) (at : ℕ) (r : Remark) (n k : ℕ) → list_any (λ (i : ℕ). same_remark (row_in w (at + 16 * i)) r) (range_with_len k n) ≡ remarked r (rows_in w (at + 16 * k) n)
+unfolding rows_in remarked
+any_from w at r zero k = refl
+any_from w at r (suc n) k =
+    let f : at + 16 * (k + 1) ≡ at + 16 * k + 16 = omega arith in
+    or_cond (same_remark (row_in w (at + 16 * k)) r) (list_any (λ (i : ℕ). same_remark (row_in w (at + 16 * i)) r) (range_with_len (k + 1) n))
+    ∙ rw (any_from w at r n (k + 1), f)
 
-  pub rows_last : (i : ℕ) → n ≤ i → remarked r (rows_in w (at + 16 * i) (n - i)) ≡ false
-  unfolding rows_in remarked
-  rows_last i h =
-      let e : n - i ≡ 0 = omega arith in
-      ap (λ (k : ℕ). remarked r (rows_in w (at + 16 * i) k)) e
+pub any_row : (w : Bytes) (at n : ℕ) (r : Remark) → list_any (λ (i : ℕ). same_remark (row_in w (at + 16 * i)) r) (range_with_len 0 n) ≡ remarked r (rows_in w at n)
+any_row w at n r = any_from w at r n 0 ∙ rw add-zero
 
 -- a row behind the others
 pub rows_snoc : (rs : List Remark) (r : Remark) → rows_bytes (rs ++ (r ∷ [])) ≡ rows_bytes rs ++ row_bytes r

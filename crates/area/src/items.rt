@@ -4,11 +4,12 @@ ghost use Rattle.area.specs.Area.{items_at, stack_at, with_item, headed};
 ghost use Rattle.area.specs.Posts.{Finds, Places, blocks_with};
 
 use crate::stack::shift;
-use crate::{Area, Progress, Spot, write_four, write_two};
+use crate::{Area, Progress, Spot, blocks, write_words};
 use numbers::refusal::Refusal;
 use numbers::words::{copy, read};
 
 // The first of the n blocks that has the name and room for `need` bytes; else behind the last.
+// A loop that returns and no `find`: the block's length is looked at and handed on. `need < 2 ^ 40`: a bound of one call's number.
 fn spot(work: &[u8], n: usize, name: u32, need: usize) -> Spot
     requires { (n ≤ 4095) × (need < 2 ^ 40) }
     ensures { Finds work.now n name need result }
@@ -35,8 +36,12 @@ fn put_head(work: &mut [u8], end: usize, name: u32, before: usize, start: usize,
     requires { (8 * before + 8 ≤ length work.old) × (end + 16 ≤ length work.old) × (before < 4095) × (start ≤ 0x100000) × (len < 2 ^ 31) }
     ensures { work.new ≡ headed work.old end name before start len }
 {
-    write_two(work, 8 * before, name, (start + len) as u32);
-    write_four(work, end, (before + 1) as u32, start as u32, len as u32, 0);
+    write_words(work, 8 * before, &[name, (start + len) as u32]);
+    write_words(
+        work,
+        end,
+        &[(before + 1) as u32, start as u32, len as u32, 0],
+    );
 }
 
 impl Progress {
@@ -59,7 +64,7 @@ impl Progress {
 impl Area<'_> {
     ghost use Rattle.area.specs.Steps.{Lays, LaysText};
 
-    // Where an item of the name with `need` bytes goes; refused where the block's number or the start would be too large.
+    // Where an item of the name with `need` bytes goes; refused where the block's number or the start would be too large. `need < 2 ^ 40` as at `spot`.
     fn place(&self, name: u32, need: usize) -> Result<Spot, Refusal>
         requires { need < 2 ^ 40 }
         ensures { Places self.now.bytes.now self.now.progress.blocks name need result }
@@ -93,8 +98,8 @@ impl Area<'_> {
     {
         let p = self.progress;
         let n = text.len();
-        let Spot { before, start } = self.place(1, n + 1)?;
-        put_head(self.bytes, p.end, 1, before, start, n + 1);
+        let Spot { before, start } = self.place(blocks::STRING, n + 1)?;
+        put_head(self.bytes, p.end, blocks::STRING, before, start, n + 1);
         copy(self.bytes, p.end + 16, text);
         self.progress = p.filed(before, p.end + (16 + (n + 1)), p.top);
         Ok((before + 1 + start * 4096) as u32)

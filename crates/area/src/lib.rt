@@ -2,7 +2,7 @@
 // It is one lent slice with fixed places, and no Vec or map: document 01 has no heap and a fixed amount of memory.
 #![tactic(auto)]
 
-ghost use Rattle.std.specs.Prelude.{◌≡◌, [], ◌∷◌, ◌+◌, ◌≤◌, length};
+ghost use Rattle.std.specs.Prelude.{◌≡◌, ◌+◌, ◌*◌, ◌≤◌, length};
 ghost use Rattle.numbers.specs.Words.{words, over};
 ghost use Rattle.area.specs.Area.{stack_at};
 ghost use Rattle.area.specs.Posts.{Safe, paid_in};
@@ -11,11 +11,22 @@ use numbers::refusal::Refusal;
 use numbers::words::write_u32;
 use stack::drop_run;
 
+pub mod blocks;
 pub mod fault;
 pub mod items;
 pub mod notes;
 pub mod stack;
 pub mod used;
+
+// Where the remark rows start; the block rows start at 0.
+pub const REMARKS: usize = 32768;
+
+// Where the table of the blocks' places starts.
+pub const PLACES: usize = 49152;
+
+// Where the names of used structures start; those of used enums start at `NAMES + 4 * entries`, the items at `NAMES + 8 * entries`, and the
+// stack stands behind them. The two sums are written out: as methods of Round they would ask for a bound of their own.
+pub const NAMES: usize = 65536;
 
 // What a round is given: the schema's index entries, the charge's cap, and how many remarks were taken by earlier rounds.
 #[derive(Clone, Copy)]
@@ -50,7 +61,7 @@ pub struct Area<'a> {
 }
 
 impl Progress {
-    // With a cost charged; refused where the charge would pass the cap.
+    // With a cost charged; refused where the charge would pass the cap. This is for numbers of no area; `Area::pay` is the area's.
     pub fn paid(self, cap: usize, cost: usize) -> Result<Progress, Refusal>
         requires { self.charge ≤ cap }
         ensures { result ≡ paid_in cap self cost }
@@ -92,20 +103,13 @@ pub struct Spot {
     pub start: usize,
 }
 
-// Two numbers, one behind the other.
-pub fn write_two(s: &mut [u8], at: usize, a: u32, b: u32)
-    requires { at + 8 ≤ length s.old }
-    ensures { s.new ≡ over s.old at (words (a ∷ b ∷ [])) }
+// Numbers, one behind the other.
+#[tactic(auto, using(crate::proofs::Over::words_next, numbers::proofs::Laws::over_nil), unfolding(numbers::specs::Words::words))]
+pub fn write_words(s: &mut [u8], at: usize, numbers: &[u32])
+    requires { at + 4 * length numbers.now ≤ length s.old }
+    ensures { s.new ≡ over s.old at (words numbers.now) }
 {
-    write_u32(s, at, a);
-    write_u32(s, at + 4, b);
-}
-
-// Four numbers, one behind the other.
-pub fn write_four(s: &mut [u8], at: usize, a: u32, b: u32, c: u32, d: u32)
-    requires { at + 16 ≤ length s.old }
-    ensures { s.new ≡ over s.old at (words (a ∷ b ∷ c ∷ d ∷ [])) }
-{
-    write_two(s, at, a, b);
-    write_two(s, at + 8, c, d);
+    for (k, x) in numbers.iter().enumerate() {
+        write_u32(s, at + 4 * k, *x);
+    }
 }

@@ -4,7 +4,7 @@ ghost use Rattle.layout.specs.State;
 ghost use Rattle.area.specs.Rows.{row_in, rows_in};
 ghost use Rattle.area.specs.Posts.{Safe, Notes};
 
-use crate::{Area, Progress, Round, write_four};
+use crate::{Area, Progress, REMARKS, Round, write_words};
 use layout::Remark;
 use numbers::words::read;
 
@@ -13,15 +13,11 @@ pub fn row_at(work: &[u8], at: usize) -> Remark
     requires { at < 2 ^ 62 }
     ensures { result ≡ row_in work.now at }
 {
-    let kind = read::<u32>(work, at);
-    let structure = read::<u32>(work, at + 4);
-    let member = read::<u32>(work, at + 8);
-    let detail = read::<u32>(work, at + 12);
     Remark {
-        kind,
-        structure,
-        member,
-        detail,
+        kind: read::<u32>(work, at),
+        structure: read::<u32>(work, at + 4),
+        member: read::<u32>(work, at + 8),
+        detail: read::<u32>(work, at + 12),
     }
 }
 
@@ -37,16 +33,11 @@ fn remarked(work: &[u8], n: usize, r: Remark) -> bool
     requires { n ≤ 1024 }
     ensures { result ≡ State.remarked r (rows_in work.now 32768 n) }
 {
-    for k in 0..n {
-        if same(row_at(work, 32768 + 16 * k), r) {
-            return true;
-        }
-    }
-    false
+    (0..n).any(|k| same(row_at(work, REMARKS + 16 * k), r))
 }
 
-// Also for numbers that are not in order afterwards, unlike `Area::note`.
 // A remark is met: kept as a row, unless it stands there, belongs to an earlier round, or the rows are full.
+// This is for a work area whose numbers need not be in order afterwards; `Area::note` keeps them so.
 pub fn note(work: &mut [u8], round: Round, p: Progress, r: Remark) -> Progress
     requires { Safe round (length work.old) p }
     ensures { Notes round (length work.old) p work.old r result work.new }
@@ -61,13 +52,10 @@ pub fn note(work: &mut [u8], round: Round, p: Progress, r: Remark) -> Progress
         if 1024 <= n {
             return q;
         }
-        write_four(
+        write_words(
             work,
-            32768 + 16 * n,
-            r.kind,
-            r.structure,
-            r.member,
-            r.detail,
+            REMARKS + 16 * n,
+            &[r.kind, r.structure, r.member, r.detail],
         );
         q.rows = n + 1;
     }
@@ -78,7 +66,7 @@ pub fn note(work: &mut [u8], round: Round, p: Progress, r: Remark) -> Progress
 impl Area<'_> {
     ghost use Rattle.area.specs.Steps;
 
-    // A remark is met, where the charge pays for it.
+    // A remark is met, where the charge pays for it. No ghost field: it holds where a cost has been paid, and each remark uses it up.
     pub fn note(&mut self, r: Remark)
         requires { self.old.progress.seen < 65536 * self.old.progress.charge }
         ensures { Steps.Notes self.old r self.new }

@@ -22,7 +22,7 @@ returns c =
     let a = c.args in
     let g = c.well_formed.1.1.1.0.1.1 in
     elim c.if-p-round.branch [
-      | then-p-round+then-not-remarked+else-n-ge1024 w ↦ rw (w.q-is, w.work-is, w.write_four.ensures)
+      | then-p-round+then-not-remarked+else-n-ge1024 w ↦ rw (w.q-is, w.work-is, w.write_words.ensures)
           (note_new a.round (length a.work.now) a.p a.work.now a.r c.requires c.if-p.false
           (rw (le-ltb a.p.seen a.round.skip w.if-p-round.true) (sym w.remarked.ensures ∙ w.if-not-remarked.true)) w.if-n-ge1024.false
           record { kind = g.0.1; structure = g.1.0.1; member = g.1.1.0.1; detail = g.1.1.1.0.1 })

@@ -1,30 +1,22 @@
 -- `area::used::contains` meets its contract. Assumes nothing.
-use mathlib.Core.Path.{◌≡◌, sym, ◌∙◌}
-use mathlib.Core.Bool.{true, false}
-use Prim.Native.Nat.{◌+◌, ◌*◌}
-use native.Mathlib.Nat.{sub-zero, add-zero}
+use mathlib.Core.Path.{◌≡◌, ◌∙◌}
+use mathlib.Core.Bool.{Bool, true, false}
+use Prim.Native.Nat.{ℕ, ◌+◌, ◌*◌}
+use native.Mathlib.Omega.{arith}
 use lib.Dec.{eqb}
-use borrow.Author.Tests.{eq-eqb, ne_eqb}
+use borrow.Author.Rules.{rules}
+use borrow.Author.Tests.{tests}
+use Rattle.std.proofs.lemmas.Iterator.{cases_from_any, YieldsList-from_range}
 use Rattle.numbers.specs.Words.{read_at}
-use Rattle.area.proofs.Names.{names_next, names_last}
+use Rattle.area.proofs.Anys.{any_below}
+use Rattle.area.proofs.Names.{any_name}
 use Rattle.area.proofs.used.contains.Goals as goal
-
-pub loop-k-init : goal.loop-k-init
-loop-k-init c = rw (add-zero, sub-zero)
-
-pub returns-then-read-name : goal.returns-then-read-name
-returns-then-read-name c =
-    let s = c.args in
-    let t : eqb (read_at 4 s.work.now (s.at + 4 * c.loop-k.k)) s.name ≡ true = rw (← c.read.ensures) (eq-eqb c.read.result s.name c.if-read-name.true) in
-    sym (names_next s.work.now s.at s.n s.name c.loop-k.k c.loop-k-test.true ∙ rw t) ∙ c.loop-k.invariant
-
-pub loop-k-preserved : goal.loop-k-preserved
-loop-k-preserved c =
-    let s = c.args in
-    let t : eqb (read_at 4 s.work.now (s.at + 4 * c.loop-k.k)) s.name ≡ false = rw (← c.read.ensures) (ne_eqb c.read.result s.name c.if-read-name.false) in
-    sym (names_next s.work.now s.at s.n s.name c.loop-k.k c.loop-k-test.true ∙ rw t) ∙ c.loop-k.invariant
 
 pub returns : goal.returns
 returns c =
     let s = c.args in
-    sym (names_last s.work.now s.at s.n s.name c.loop-k.k c.loop-k-test.false) ∙ c.loop-k.invariant
+    let p : ℕ → Bool = λ k. eqb (read_at 4 s.work.now (s.at + 4 * k)) s.name in
+    any_below p s.n c.any.result
+    (cases_from_any _ _ c.any.result (λ k. p k ≡ true) (λ k. p k ≡ false) c.any.ensures.ran (YieldsList-from_range 0 s.n s.n (cc) (omega arith))
+    (λ x q k. search (rules, tests)) (λ x q k. search (rules, tests)))
+    ∙ any_name s.work.now s.at s.n s.name
