@@ -2,33 +2,16 @@
 use Rattle.std.specs.Prelude.{Option, Some, None, is_some, unwrap_or, option_map, Ok, Err}
 use Prim.Native.Nat.{ℕ, zero, suc, ◌+◌, ◌-◌, ◌≤◌}
 use native.Mathlib.Omega.{arith}
-use mathlib.Core.Path.{◌≡◌, refl, sym, ap}
+use mathlib.Core.Path.{◌≡◌, refl, sym}
 use mathlib.Core.Bool.{Bool, true, false, not}
-use mathlib.Core.List.{List, [], ◌∷◌}
-use lib.ListN.{length, take, get_or}
-use Rattle.numbers.specs.Words.{Bytes, bytes_of, words, over}
+use mathlib.Core.List.{[], ◌∷◌}
+use lib.ListN.{length, take}
+use Rattle.numbers.specs.Words.{Bytes, over}
 use Rattle.coerce.specs.Numbers.{fit_or}
 use Rattle.coerce.specs.declared.misfit.Misfit.TheVariants.{Unfit}
 use Rattle.layout.proofs.Fewer.{over_nil}
-use Rattle.area.proofs.Over.{words_one, words_behind}
 use Rattle.coerce.specs.Answer.{nothing}
 use Rattle.cells.specs.Cells.{Puts}
-
--- ---- the first numbers of four
-
-four_is : (l : List ℕ) → length l ≡ 4 → l ≡ get_or l 0 0 ∷ get_or l 1 0 ∷ get_or l 2 0 ∷ get_or l 3 0 ∷ []
-four_is (a ∷ b ∷ c ∷ d ∷ []) e = refl
-four_is [] e = cc
-four_is (a ∷ []) e = absurd (omega (arith, e))
-four_is (a ∷ b ∷ []) e = absurd (omega (arith, e))
-four_is (a ∷ b ∷ c ∷ []) e = absurd (omega (arith, e))
-four_is (a ∷ b ∷ c ∷ d ∷ x ∷ l) e = absurd (omega (arith, e))
-
-pub first_three : (l k j : Bytes) (at n : ℕ) (four : List ℕ) → n ≡ 3 → length four ≡ 4 → at + 8 ≤ length l → k ≡ over l at (words (get_or four 0 0 ∷ get_or four 1 0 ∷ [])) → j ≡ over k (at + 8) (bytes_of 4 (get_or four 2 0))
-    → j ≡ over l at (words (take n four))
-first_three l k j at n four e w h f g =
-    let t : take 3 four ≡ get_or four 0 0 ∷ get_or four 1 0 ∷ get_or four 2 0 ∷ [] = ap (take 3) (four_is four w) in
-    rw (e, t) (words_behind l k j at (at + 8) (get_or four 0 0 ∷ get_or four 1 0 ∷ []) (get_or four 2 0 ∷ []) (omega arith) h f (rw words_one g))
 
 -- ---- texts
 pub take_fits : (n : ℕ) (t : Bytes) → length (take n t) ≤ n

@@ -1,14 +1,17 @@
 // A structure's definition, and what a reference and an enum's place stand for.
-ghost use Rattle.std.specs.Prelude.{◌≡◌, ◌<◌, length};
+ghost use Rattle.std.specs.Prelude.{◌≡◌, ◌+◌, ◌*◌, ◌<◌, length};
+ghost use Rattle.schema.specs.Psch.{member_at};
+ghost use Rattle.definitions.specs.Answers.{member_is};
 ghost use Rattle.layout.specs.Members;
 ghost use Rattle.cells.specs.Names.{def_of, EntriesOf, Named};
 
 use definitions::lookup::find;
-use definitions::members::{entry_count, read_member};
+use definitions::members::{Member, entry_count, read_member};
 use names::entries::Entries;
 use schema::kind::Kind;
 
-// A structure's definition: its name, its place in the schema file, its size and how many members it has.
+// A structure's definition: its name, its place in the schema file, its size and how many members it has. Functions take the schema file
+// beside it: it is one for all definitions, and held here, contracts would have to say that it is the one of `Writer`.
 #[derive(Clone, Copy)]
 pub struct Def {
     pub name: u32,
@@ -17,14 +20,23 @@ pub struct Def {
     pub count: u16,
 }
 
-// The reference of a definition's member i; 0 where there is none.
-pub fn reference_at(schema: &[u8], d: Def, i: u32) -> u32
-    ensures { result ≡ Members.reference_at (def_of schema.now d) i }
-{
-    if u32::from(d.count) <= i {
-        return 0;
+impl Def {
+    // Its member k.
+    pub fn member(self, schema: &[u8], k: u32) -> Member
+        ensures { result ≡ member_is (member_at schema.now (self.place + 12 + 12 * k)) }
+    {
+        read_member(schema, self.place, k)
     }
-    read_member(schema, d.place, i).reference
+
+    // The reference of its member i; 0 where there is none.
+    pub fn reference_at(self, schema: &[u8], i: u32) -> u32
+        ensures { result ≡ Members.reference_at (def_of schema.now self) i }
+    {
+        if u32::from(self.count) <= i {
+            return 0;
+        }
+        self.member(schema, i).reference
+    }
 }
 
 // The high half of a reference.

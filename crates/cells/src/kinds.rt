@@ -50,7 +50,7 @@ pub fn type_number(ty: u8) -> u32
         return 1;
     }
     match kind_of(ty) {
-        Kind::Integer(k) => 2,
+        Kind::Integer(_) => 2,
         Kind::Single => 3,
         Kind::Vector(n) => 2 + (n as u32),
         Kind::Text => 7,

@@ -6,7 +6,7 @@ ghost use Rattle.std.specs.Prelude.{◌≡◌, ◌+◌, ◌*◌, ◌≤◌, leng
 ghost use Rattle.numbers.specs.Words.{words, over};
 ghost use Rattle.cells.specs.Cells.{cell_bytes, cell_size, Sane, Puts, text_fit};
 
-use area::{write_four, write_two};
+use area::write_words;
 use coerce::misfit::Misfit;
 use coerce::vector::vec_of;
 use coerce::whole::{float_of, has_str, int_of, str_of};
@@ -22,7 +22,7 @@ pub mod kinds;
 pub mod plan;
 
 // Widths are numbers of bytes and not names: `write` takes them, and offsets are counted with them.
-// That they are in order (`Sane`) is asked by contracts, since an enum has no ghost field.
+// That they are in order (`Sane`) is asked by contracts, since an enum has no ghost field, and a struct around it, to have one, would be no plainer.
 // An integer of so many bytes, an f32, a vector, a hash, an enum's value or flags by entries in so many bytes, a text in so many bytes.
 #[derive(Clone, Copy)]
 pub enum Cell<'a> {
@@ -33,22 +33,6 @@ pub enum Cell<'a> {
     Enum(Entries<'a>, usize),
     Flags(Entries<'a>, usize),
     Fixed(usize),
-}
-
-// The first n of four numbers.
-fn put_words(buf: &mut [u8], off: usize, n: usize, four: [u32; 4])
-    requires { (2 ≤ n) × (n ≤ 4) × (off + 4 * n ≤ length buf.old) }
-    ensures { buf.new ≡ over buf.old off (words (take n four)) }
-{
-    let [a, b, c, d] = four;
-    if n == 4 {
-        write_four(buf, off, a, b, c, d);
-        return;
-    }
-    write_two(buf, off, a, b);
-    if n == 3 {
-        write(buf, off + 8, 4, u64::from(c));
-    }
 }
 
 // A text in len bytes: all of them but the last at most are written; what is longer is cut.
@@ -81,7 +65,7 @@ pub fn put_cell(
     match cell {
         Cell::Integer(k) => write(buf, off, k, int_of(sheet, v)?),
         Cell::Single => write(buf, off, 4, u64::from(float_of(sheet, v)?)),
-        Cell::Vector(n) => put_words(buf, off, n, vec_of(sheet, v, n)?),
+        Cell::Vector(n) => write_words(buf, off, &vec_of(sheet, v, n)?[..n]),
         Cell::Hash => {
             let hash = hash_of(sheet, v).ok_or(Misfit::Unfit)?;
             write(buf, off, 4, u64::from(hash));

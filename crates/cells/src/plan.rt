@@ -5,7 +5,7 @@ ghost use Rattle.layout.specs.Members;
 ghost use Rattle.cells.specs.Plans.{scalar_plan, fixed_plan, PlansText, PlansKind};
 
 use crate::Cell;
-use crate::defs::{Def, high_half, named, reference_at};
+use crate::defs::{Def, high_half, named};
 use area::fault::Fault;
 use definitions::members::Member;
 
@@ -18,7 +18,7 @@ pub enum Plan<'a> {
     Remark(Fault, u32),
 }
 
-// How many bytes an enum or flags member has.
+// How many bytes an enum or flags member has: by the byte itself, as document 01 has it (docs/DECISIONS.md, 18).
 fn enum_size(sub: u8) -> usize
     ensures { (result ≡ Members.enum_size sub) × (result ≤ 4) }
 {
@@ -52,7 +52,7 @@ fn vector<'a>(n: usize) -> Plan<'a>
     Plan::Store(Cell::Vector(n), 4 * n, None)
 }
 
-// A text, by its subtype.
+// A text, by its subtype: by the byte itself, as document 01 has it (docs/DECISIONS.md, 18).
 fn text<'a>(m: Member) -> Plan<'a>
     ensures { PlansText m result }
 {
@@ -86,7 +86,7 @@ pub fn plan_of(schema: &[u8], d: Def, m: Member) -> Plan<'_>
             Plan::Store(Cell::Enum(entries, size), size, name)
         }
         0x0F => {
-            let (entries, name) = named(schema, reference_at(schema, d, m.reference % 4096));
+            let (entries, name) = named(schema, d.reference_at(schema, m.reference % 4096));
             let size = enum_size(m.subtype);
             Plan::Store(Cell::Flags(entries, size), size, name)
         }

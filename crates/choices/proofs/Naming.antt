@@ -1,19 +1,24 @@
 -- A pair's names. Assumes nothing.
-use Rattle.std.specs.Prelude.{Some, None}
+use Rattle.std.specs.Prelude.{Option, Some, None, MatchOption}
 use mathlib.Core.Path.{◌≡◌, refl, sym, ap, ◌∙◌}
 use mathlib.Core.Bool.{Bool, true, false}
 use mathlib.Core.List.{List, [], ◌∷◌}
-use Prim.Native.Nat.{ℕ, zero, suc, ◌+◌, ◌-◌, ◌≤◌, ◌<◌}
+use Prim.Native.Nat.{ℕ, zero, suc, ◌+◌, ◌-◌, ◌*◌, ◌≤◌, ◌<◌}
 use native.Mathlib.Omega.{arith}
 use borrow.Author.Tests.{eq-eqb, ne_eqb, eqb-true, eqb-false, ltb-true, ltb-false}
 use lib.Dec.{eqb, ltb}
 use lib.ListN.{length, drop}
+use Rattle.numbers.specs.Words.{Bytes}
 use Rattle.numbers.specs.Result.{nth}
 use Rattle.value.specs.Rows.{Fields}
 use Rattle.schema.specs.Defs.{Member, StructDef}
+use Rattle.schema.specs.Psch.{member_at}
+use Rattle.definitions.specs.Answers.{member_is}
 use Rattle.layout.specs.Write.{ARRAYINFO, named, pair_fields}
-use Rattle.choices.specs.Sources.{NextNamed}
-use Rattle.choices.proofs.Nths.{nth_none}
+use Rattle.cells.specs.declared.defs.Def.{Def}
+use Rattle.cells.specs.Names.{def_of, member_of}
+use Rattle.choices.specs.Sources.{FirstNamed, NextNamed}
+use Rattle.choices.proofs.Nths.{nth_none, nth_read}
 
 nth_drop : (ms : List Member) (k j : ℕ) → nth (drop k ms) j ≡ nth ms (k + j)
 unfolding nth
@@ -45,84 +50,62 @@ named_first (a ∷ ms) (suc i) m r rs e f g =
     let z : suc i + 1 ≡ suc (i + 1) = omega arith in
     rw (eq-eqb a.name ARRAYINFO (g 0 (omega arith) a refl), named, z) (named_first ms i m r rs e f (λ j h x y. g (suc j) (omega arith) x y))
 
--- the search so far
-pub record Seeking (d : StructDef) (count k i : ℕ) : Type 0 where
-  pub from : k ≤ i
-  pub few : i ≤ count
-  pub passed : (j : ℕ) → k ≤ j → j < i → (m : Member) → nth d.members j ≡ Some m → m.name ≡ ARRAYINFO
-
-module _ (d : StructDef) (count : ℕ) where
-  pub seek_begin : (k : ℕ) → k ≤ count → Seeking d count k k
-  seek_begin k h = record { from = omega arith; few = h; passed = λ j a b. absurd (omega arith) }
-
-  pub seek_on : (k i : ℕ) (m : Member) → Seeking d count k i → i < count → nth d.members i ≡ Some m → m.name ≡ 0x100 → Seeking d count k (i + 1)
-  seek_on k i m s h e f =
-      record {
-        from = omega (arith, s.from);
-        few = omega arith;
-        passed = λ j a b x y. go j a b x y (eqb j i) refl;
-      }
+module _ (d : StructDef) (count : ℕ) (l : length d.members ≡ count) (r s : ℕ) where
+  below : (j : ℕ) (m : Member) → nth d.members j ≡ Some m → j < count
+  below j m e = go (ltb j count) refl
     where
-      go : (j : ℕ) → k ≤ j → j < i + 1 → (x : Member) → nth d.members j ≡ Some x → (t : Bool) → eqb j i ≡ t → x.name ≡ ARRAYINFO
-      go j a b x y true q =
-          let z : nth d.members j ≡ Some m = rw (eqb-true j i q) e in
-          let u : x ≡ m = cc in
-          ap (λ (n : Member). n.name) u ∙ f
-      go j a b x y false q = s.passed j a (let n : j ≡ i → ⊥ = eqb-false j i q in omega arith) x y
+      go : (b : Bool) → ltb j count ≡ b → j < count
+      go true q = ltb-true j count q
+      go false q = absurd (let z : nth d.members j ≡ None = nth_none d.members j (omega (arith, l, ltb-false j count q)) in let u : ◌≡◌ {A = ℕ} 0 1 = cc in omega arith)
 
-  pub seek_found : (k i : ℕ) (m : Member) → Seeking d count k i → i < count → nth d.members i ≡ Some m → (m.name ≡ 0x100 → ⊥) → NextNamed d count k i
-  seek_found k i m s h e f =
-      record { from = s.from; few = s.few; passed = s.passed; here = λ x y z. f (let u : x ≡ m = cc in ap (λ (n : Member). n.name) (sym u) ∙ z) }
+  -- every member is ARRAYINFO
+  pub pair_none : NextNamed d count 0 None → pair_fields d (r, s) ≡ []
+  pair_none f = named_none d.members r (s ∷ []) (λ j m e. f j (omega arith) (below j m e) m e)
 
-  pub seek_none : (k i : ℕ) → length d.members ≡ count → Seeking d count k i → count ≤ i → NextNamed d count k count
-  seek_none k i l s h =
-      let e : i ≡ count = omega (arith, s.few) in
-      record {
-        from = omega (arith, s.from);
-        few = omega arith;
-        passed = rw (← e) s.passed;
-        here = λ x y z. absurd (let q : nth d.members count ≡ None = nth_none d.members count (omega (arith, l)) in let u : ◌≡◌ {A = ℕ} 0 1 = cc in omega arith);
-      }
+  module _ (i : ℕ) (a : Member) (f : FirstNamed d count 0 i) (e : nth d.members i ≡ Some a) where
+    rest : pair_fields d (r, s) ≡ (a.name, r) ∷ named (drop (i + 1) d.members) (s ∷ [])
+    rest = named_first d.members i a r (s ∷ []) e (f.here a e) (λ j h x y. f.passed j (omega arith) h x y)
 
-  module _ (l : length d.members ≡ count) (r s : ℕ) where
-    -- every member is ARRAYINFO
-    pub pair_none : (i : ℕ) → NextNamed d count 0 i → count ≤ i → pair_fields d (r, s) ≡ []
-    pair_none i a h = named_none d.members r (s ∷ []) (λ j m e. a.passed j (omega arith) (behind j m e) m e)
+    -- all behind it are
+    pub pair_one : NextNamed d count (i + 1) None → pair_fields d (r, s) ≡ (a.name, r) ∷ []
+    pair_one g =
+        rest
+        ∙ ap (λ (x : Fields). (a.name, r) ∷ x)
+        (named_none (drop (i + 1) d.members) s []
+        (λ k m y. let z = sym (nth_drop d.members (i + 1) k) ∙ y in g (i + 1 + k) (omega arith) (below (i + 1 + k) m z) m z))
+
+    -- there is a second
+    pub pair_two : (j : ℕ) (b : Member) → FirstNamed d count (i + 1) j → nth d.members j ≡ Some b → pair_fields d (r, s) ≡ (a.name, r) ∷ (b.name, s) ∷ []
+    pair_two j b g y =
+        rest
+        ∙ ap (λ (x : Fields). (a.name, r) ∷ x)
+        (named_first (drop (i + 1) d.members) (j - (i + 1)) b s [] (nth_drop d.members (i + 1) (j - (i + 1)) ∙ (rw at_j y)) (g.here b y)
+        (λ k h x z. g.passed (i + 1 + k) (omega arith) (omega (arith, g.from)) x (sym (nth_drop d.members (i + 1) k) ∙ z))
+        ∙ ap (λ (x : Fields). (b.name, s) ∷ x) (named_nil (drop (j - (i + 1) + 1) (drop (i + 1) d.members))))
       where
-        behind : (j : ℕ) (m : Member) → nth d.members j ≡ Some m → j < i
-        behind j m e = go (ltb j count) refl
-          where
-            go : (b : Bool) → ltb j count ≡ b → j < i
-            go true q = omega (arith, ltb-true j count q)
-            go false q = absurd (let z : nth d.members j ≡ None = nth_none d.members j (omega (arith, l, ltb-false j count q)) in let u : ◌≡◌ {A = ℕ} 0 1 = cc in omega arith)
+        at_j : i + 1 + (j - (i + 1)) ≡ j
+        at_j = omega (arith, g.from)
 
-    module _ (i : ℕ) (a : Member) (f : NextNamed d count 0 i) (e : nth d.members i ≡ Some a) where
-      rest : pair_fields d (r, s) ≡ (a.name, r) ∷ named (drop (i + 1) d.members) (s ∷ [])
-      rest = named_first d.members i a r (s ∷ []) e (f.here a e) (λ j h x y. f.passed j (omega arith) h x y)
+-- ---- the members as the code reads them
+module _ (F : Bytes) (d : Def) where
+  -- whether member i is ARRAYINFO
+  abbrev pub is_info : ℕ → Bool
+  is_info i = eqb (member_is (member_at F (d.place + 12 + 12 * i))).name ARRAYINFO
 
-      -- all behind it are
-      pub pair_one : (j : ℕ) → NextNamed d count (i + 1) j → count ≤ j → pair_fields d (r, s) ≡ (a.name, r) ∷ []
-      pair_one j g h = rest ∙ ap (λ (x : Fields). (a.name, r) ∷ x) (named_none (drop (i + 1) d.members) s [] (λ k m y. behind k m (sym (nth_drop d.members (i + 1) k) ∙ y)))
-        where
-          behind : (k : ℕ) (m : Member) → nth d.members (i + 1 + k) ≡ Some m → m.name ≡ ARRAYINFO
-          behind k m y = go (ltb (i + 1 + k) count) refl
-            where
-              go : (b : Bool) → ltb (i + 1 + k) count ≡ b → m.name ≡ ARRAYINFO
-              go true q = g.passed (i + 1 + k) (omega arith) (omega (arith, ltb-true (i + 1 + k) count q)) m y
-              go false q =
-                  absurd
-                  (let z : nth d.members (i + 1 + k) ≡ None = nth_none d.members (i + 1 + k) (omega (arith, l, ltb-false (i + 1 + k) count q)) in
-                  let u : ◌≡◌ {A = ℕ} 0 1 = cc in
-                  omega arith)
+  name_read : (i : ℕ) (m : Member) → i < d.count → nth (def_of F d).members i ≡ Some m → m.name ≡ (member_is (member_at F (d.place + 12 + 12 * i))).name
+  name_read i m h e =
+      let f = nth_read F d i (member_is (member_at F (d.place + 12 + 12 * i))) refl h in
+      let u : m ≡ member_of (member_is (member_at F (d.place + 12 + 12 * i))) = cc in
+      ap (λ (x : Member). x.name) u
 
-      -- there is a second
-      pub pair_two : (j : ℕ) (b : Member) → NextNamed d count (i + 1) j → nth d.members j ≡ Some b → pair_fields d (r, s) ≡ (a.name, r) ∷ (b.name, s) ∷ []
-      pair_two j b g y =
-          rest
-          ∙ ap (λ (x : Fields). (a.name, r) ∷ x)
-          (named_first (drop (i + 1) d.members) (j - (i + 1)) b s [] (nth_drop d.members (i + 1) (j - (i + 1)) ∙ (rw at_j y)) (g.here b y)
-          (λ k h x z. g.passed (i + 1 + k) (omega arith) (omega (arith, g.from)) x (sym (nth_drop d.members (i + 1) k) ∙ z))
-          ∙ ap (λ (x : Fields). (b.name, s) ∷ x) (named_nil (drop (j - (i + 1) + 1) (drop (i + 1) d.members))))
-        where
-          at_j : i + 1 + (j - (i + 1)) ≡ j
-          at_j = omega (arith, g.from)
+  pub next_found : (k : ℕ) (r : Option ℕ)
+      → MatchOption r ((i : ℕ) → k ≤ i → i < d.count → is_info i ≡ true) (λ i. (k ≤ i) × (i < d.count) × (is_info i ≡ false) × ((j : ℕ) → k ≤ j → j < i → is_info j ≡ true))
+      → NextNamed (def_of F d) d.count k r
+  next_found k None f = λ i a b m e. name_read i m b e ∙ eqb-true _ ARRAYINFO (f i a b)
+  next_found k (Some r) f =
+      record {
+        from = f.0;
+        few = f.1;
+        passed = λ i a b m e. name_read i m (omega (arith, f.1)) e ∙ eqb-true _ ARRAYINFO (f.3 i a b);
+        here = λ m e z. eqb-false _ ARRAYINFO f.2 (sym (name_read r m f.1 e) ∙ z);
+      }

@@ -23,12 +23,21 @@ fields_is T S.Nothing = []
 fields_is T (S.One r a) = (a, r) ∷ []
 fields_is T (S.Two r a s b) = (a, r) ∷ (b, s) ∷ []
 
--- r is the first of the members from k on whose name is not 0x100, or their number `count`
-pub record NextNamed (d : StructDef) (count k r : ℕ) : Type 0 where
+-- the members from k on, as far as to n, have the name 0x100
+abbrev pub AllUnnamed : StructDef → ℕ → ℕ → Type 0
+AllUnnamed d k n = (i : ℕ) → k ≤ i → i < n → (m : Defs.Member) → nth d.members i ≡ Some m → m.name ≡ ARRAYINFO
+
+-- r is the first of the `count` members from k on whose name is not 0x100
+pub record FirstNamed (d : StructDef) (count k r : ℕ) : Type 0 where
   pub from : k ≤ r
-  pub few : r ≤ count
-  pub passed : (i : ℕ) → k ≤ i → i < r → (m : Defs.Member) → nth d.members i ≡ Some m → m.name ≡ ARRAYINFO
+  pub few : r < count
+  pub passed : AllUnnamed d k r
   pub here : (m : Defs.Member) → nth d.members r ≡ Some m → m.name ≡ ARRAYINFO → ⊥
+
+-- r is that one, if there is one
+abbrev pub NextNamed : StructDef → ℕ → ℕ → Option ℕ → Type 0
+NextNamed d count k (Some r) = FirstNamed d count k r
+NextNamed d count k None = AllUnnamed d k count
 
 -- the structure that building finds under the row's own type, or else under the reference
 abbrev pub own_up : Bytes → Row → ℕ → Option Def
@@ -40,10 +49,14 @@ pub record Owned (F : Bytes) (v : Row) (reference : ℕ) (r : Option Def) : Type
   pub missing : (S : Schema) (T : Bytes) (R : Round) → schema_of F ≡ ok S → r ≡ None → own_type (env_of T S R) v reference ≡ reference
   pub name : (S : Schema) (T : Bytes) (R : Round) (d : Def) → schema_of F ≡ ok S → r ≡ Some d → own_type (env_of T S R) v reference ≡ d.name
 
--- how many items an array has; what is none has none
+-- how many elements a row of the kind has; what is of another kind has none
+abbrev pub count_of : Row → ℕ → ℕ
+count_of v kind = cond (eqb v.kind kind) v.b 0
+
+-- how many items an array has
 abbrev pub item_count : Row → ℕ
-item_count v = cond (eqb v.kind Array) v.b 0
+item_count v = count_of v Array
 
 -- how many pairs a map has
 abbrev pub pair_count : Row → ℕ
-pair_count v = cond (eqb v.kind Map) v.b 0
+pair_count v = count_of v Map

@@ -1,4 +1,4 @@
--- The same of areas, before and after.
+-- What a finished run and the elements of runs do to an area: the relations of Posts between two areas, before and after.
 use Rattle.std.specs.Prelude.{ℕ, Bool, Result}
 use Rattle.numbers.specs.declared.refusal.Refusal.{Refusal}
 use Rattle.definitions.specs.declared.members.Member as coded

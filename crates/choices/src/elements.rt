@@ -14,6 +14,7 @@ use area::Area;
 use area::fault::Fault;
 use cells::defs::Def;
 use members::Target;
+use members::rows::Rows;
 use value::kind::Kind;
 use value::read_row;
 
@@ -42,12 +43,12 @@ impl Items {
     }
 
     // The row of element k, or of pair k's key.
-    pub fn row(self, first: u32, k: u32) -> usize
-        ensures { (result ≡ element_row first k (is_pairs self)) × (result < 2 ^ 34) }
+    pub fn row(self, rows: Rows, k: u32) -> usize
+        ensures { (result ≡ element_row rows.first k (is_pairs self)) × (result < 2 ^ 34) }
     {
         match self {
-            Items::Pairs => (first as usize) + 2 * (k as usize),
-            Items::Elements => (first as usize) + (k as usize),
+            Items::Pairs => (rows.first as usize) + 2 * (k as usize),
+            Items::Elements => rows.row(k),
         }
     }
 

@@ -164,8 +164,8 @@ module _ (R : Round) (n : ℕ) (p : Progress) (w : Bytes) where
           → Fills (Known o) R n p w size (λ S buf. bind (opt_m o (ret tt) use_enum) λ _. ret (over buf off bs)) (gives (tt {0}) q) w'
       go (Some x) t =
           record {
-            grew = went_marked (λ S. is_some ((winning S).enum x)) (used_in x) (put_mid at len w c) q w' 1 h t;
-            says = λ S k s σ buf i r. (t.says S s (σ ++ over buf off bs) (k x refl) (put S s σ buf i r), same S s σ buf i r ∙ f);
+            grew = went_marked (λ S. is_some ((winning S).enum x)) (used_in x) (put_mid at len w c) q w' 1 h t.marks;
+            says = λ S k s σ buf i r. (t.marks.says S s (σ ++ over buf off bs) (k x refl) (put S s σ buf i r), same S s σ buf i r ∙ f);
           }
       go None t =
           record {

@@ -1,16 +1,16 @@
 -- What the contracts say of members.
-use Rattle.std.specs.Prelude.{ℕ, ◌+◌, ◌≤◌, ◌≡◌, ◌++◌, length, Option, Some, None, is_some}
+use Rattle.std.specs.Prelude.{ℕ, ◌+◌, ◌≤◌, ◌≡◌, ◌++◌, length, Option, Some, None}
 use Rattle.numbers.specs.Words.{Bytes}
 use Rattle.value.specs.Rows.{Value}
-use Rattle.schema.specs.Defs.{Schema, winning}
+use Rattle.schema.specs.Defs.{Schema}
 use Rattle.definitions.specs.declared.members.Member as coded
 use Rattle.layout.specs.State.{Remark, State, M}
 use Rattle.layout.specs.Kinds.{type_number}
 use Rattle.layout.specs.Members as members
 use Rattle.area.specs.declared.Round.{Round}
 use Rattle.area.specs.declared.Progress.{Progress}
-use Rattle.area.specs.Area.{stack_at, Rep, used_in, env_of}
-use Rattle.area.specs.Posts.{Safe, Grown, noted_in, Marks, Ans, gives, refuses, Meets}
+use Rattle.area.specs.Area.{stack_at, Rep, env_of}
+use Rattle.area.specs.Posts.{Safe, Grown, noted_in, UsesEnum, Ans, gives, refuses, Meets}
 use Rattle.cells.specs.declared.defs.Def.{Def}
 
 -- the remark on member m of structure d
@@ -50,4 +50,4 @@ pub record Slots (R : Round) (n : ℕ) (p : Progress) (w : Bytes) (sub : ℕ) (t
 -- the enum of the name is used, where there is one
 abbrev pub Marked : Round → ℕ → Progress → Bytes → Option ℕ → Progress → Bytes → Type 0
 Marked R n p w None q w' = (q ≡ p) × (w' ≡ w)
-Marked R n p w (Some name) q w' = Marks R n p w (λ S. is_some ((winning S).enum name)) (used_in name) q w'
+Marked R n p w (Some name) q w' = UsesEnum R n p w name q w'

@@ -1,4 +1,4 @@
--- The same of areas, before and after. What is written depends on the round by what the layout is given.
+-- What writing a member, a text's slot or an enum's use does to an area: the relations of Posts between two areas, before and after. What is written depends on the round by what the layout is given.
 use Rattle.std.specs.Prelude.{ℕ, Option, Result}
 use Rattle.numbers.specs.Words.{Bytes}
 use Rattle.numbers.specs.declared.refusal.Refusal.{Refusal}

@@ -29,6 +29,7 @@ pub mod rows;
 pub mod slots;
 
 // A member of a structure with the row of its value, where there is one: where a writer writes, and what its remarks speak of.
+// The area is lent beside it, as beside `Writer`.
 #[derive(Clone, Copy)]
 pub struct Target {
     pub structure: Def,
@@ -64,6 +65,14 @@ impl Target {
             member: self.member.name,
             detail,
         });
+    }
+
+    // Remark 1: the member does not fit. Said by the places themselves: a test that also writes a remark would hide it.
+    pub fn too_small(&self, area: &mut Area<'_>)
+        requires { area.old.progress.seen < 65536 * area.old.progress.charge }
+        ensures { Notes area.old (remark_on self.now.structure self.now.member 1 self.now.structure.size) area.new }
+    {
+        self.say(area, Fault::MemberSize, self.structure.size);
     }
 
     // Remark 2, unless the member is missing.

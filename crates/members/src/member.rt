@@ -17,7 +17,6 @@ ghost use Rattle.members.specs.Steps.{Fills, Uses};
 use crate::Target;
 use crate::slots::{slot_size, text_slot};
 use area::Area;
-use area::fault::Fault;
 use cells::plan::{Plan, plan_of};
 use cells::{Cell, put_cell};
 use coerce::misfit::Misfit;
@@ -49,15 +48,14 @@ fn write_cell(
         (λ R S buf. cell_member (env_of sheet.now S R) need (cell_bytes sheet.now cell.entry) name
         (def_of F at.now.structure) (member_of at.now.member) at.now.value buf) result area.new }
 {
-    let size = at.structure.size;
     if !at.fits(need) {
-        at.say(area, Fault::MemberSize, size);
+        at.too_small(area);
         return Ok(());
     }
     let row = value_row(sheet, at.value);
     let off = at.member.offset as usize;
     let stop = area.progress.top;
-    let from = stop - (size as usize);
+    let from = stop - at.structure.size as usize;
     match put_cell(sheet, &mut area.bytes[from..stop], off, cell, row) {
         Ok(()) => {
             used(area, name);
@@ -78,22 +76,18 @@ fn write_pointer(sheet: &[u8], area: &mut Area<'_>, at: &Target) -> Result<(), R
     ensures { (F : Bytes) → Fills any_schema area.old at.now.structure.size
         (λ R S buf. Members.pointer_member (env_of sheet.now S R) (def_of F at.now.structure) (member_of at.now.member) at.now.value buf) result area.new }
 {
-    let Target {
-        structure,
-        member,
-        value,
-    } = *at;
-    if !at.fits(slot_size(member.subtype)) {
-        at.say(area, Fault::MemberSize, structure.size);
+    let sub = at.member.subtype;
+    if !at.fits(slot_size(sub)) {
+        at.too_small(area);
         return Ok(());
     }
-    let row = value_row(sheet, value);
+    let row = value_row(sheet, at.value);
     if !has_str(row) {
         at.wrong(area);
         return Ok(());
     }
     let place = at.place(area.progress.top);
-    text_slot(area, member.subtype, str_of(sheet, row), place)
+    text_slot(area, sub, str_of(sheet, row), place)
 }
 
 // A member that leads to no structure, as planned; any other kind is left to the writers of structures. One place writes the cells of members.

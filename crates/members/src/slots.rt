@@ -26,7 +26,7 @@ pub fn put_counted(work: &mut [u8], at: usize, x: u32, n: usize)
     write(work, at + 10, 2, n as u64);
 }
 
-// How many bytes a text by pointer has in its structure. By the byte itself, as document 01 has it of type bytes and subtypes.
+// How many bytes a text by pointer has in its structure. By the byte itself, as document 01 has it (docs/DECISIONS.md, 18).
 pub fn slot_size(sub: u8) -> usize
     ensures { (result ≡ Members.slot_size sub) × (8 ≤ result) × (result ≤ 16) }
 {

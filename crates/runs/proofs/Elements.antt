@@ -207,7 +207,7 @@ module _ (R : Round) (n : ℕ) (p : Progress) (w T F : Bytes) (h : ℕ) (rs : Li
       by None e m a = enums_none r w' e (rw (← m.0, ← m.1) a)
       by (Some x) e m a =
           let i : x ≡ h = named_own F h en name is x e in
-          enums_some q v r w' (rw (← i) e) (rw (← i) m) a
+          enums_some q v r w' (rw (← i) e) (rw (← i) m.marks) a
 
 -- runs by their elements' kind
 

@@ -1,4 +1,4 @@
--- The same of areas, before and after.
+-- What writing a run does to an area: the relation of Posts between two areas, before and after.
 use Rattle.std.specs.Prelude.{ℕ, Option, Result}
 use Rattle.numbers.specs.declared.refusal.Refusal.{Refusal}
 use Rattle.schema.specs.Defs.{Schema}

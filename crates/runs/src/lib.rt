@@ -18,8 +18,8 @@ ghost use Rattle.members.specs.Posts.{any_schema};
 ghost use Rattle.runs.specs.Posts.{stop_in, plain_run};
 ghost use Rattle.runs.specs.Steps.{Yields};
 
-use area::Area;
 use area::fault::Fault;
+use area::{Area, blocks};
 use cells::defs::{high_half, named};
 use cells::kinds::{Kind, kind_of};
 use cells::{Cell, put_cell};
@@ -76,7 +76,8 @@ fn pointer_text_run(
     rows: Rows,
 ) -> Result<Option<u32>, Refusal>
     ensures { Yields any_schema area.old 0
-        (λ R S. Runs.run (env_of sheet.now S R) (Members.slot_size sub) (Runs.slot_block sub) (Runs.text_element (env_of sheet.now S R) sub) (rows_from rows.first rows.count)) result area.new }
+        (λ R S. Runs.run (env_of sheet.now S R) (Members.slot_size sub) (Runs.slot_block sub)
+        (Runs.text_element (env_of sheet.now S R) sub) (rows_from rows.first rows.count)) result area.new }
 {
     let stride = slot_size(sub);
     area.pay(rows.cost(stride as u32))?;
@@ -89,11 +90,15 @@ fn pointer_text_run(
     Ok(Some(slot_block(sub)))
 }
 
-// The name of the block of texts by pointer. A block's name is the file's number for it, as 12, or a structure's hash: no enum holds both.
+// The name of the block of texts by pointer: by the byte itself, as document 01 has it (docs/DECISIONS.md, 18).
 fn slot_block(sub: u8) -> u32
     ensures { result ≡ Runs.slot_block sub }
 {
-    if sub == 3 { 200 } else { 12 }
+    if sub == 3 {
+        blocks::CHAR_POINTER
+    } else {
+        blocks::POINTER
+    }
 }
 
 // A run that a remark stops.
@@ -107,7 +112,7 @@ pub fn stop_run(area: &mut Area<'_>, at: &Target, fault: Fault, detail: u32)
     at.say(area, fault, detail);
 }
 
-// A run of texts, by the elements' subtype.
+// A run of texts, by the elements' subtype: by the byte itself, as document 01 has it (docs/DECISIONS.md, 18).
 fn text_run(
     sheet: &[u8],
     area: &mut Area<'_>,
@@ -117,7 +122,8 @@ fn text_run(
 ) -> Result<Option<u32>, Refusal>
     requires { Open area.old.progress }
     ensures { (F : Bytes) → Yields any_schema area.old 1
-        (λ R S. Runs.text_run (env_of sheet.now S R) (def_of F at.now.structure) (member_of at.now.member) (member_of x) (rows_from rows.first rows.count)) result area.new }
+        (λ R S. Runs.text_run (env_of sheet.now S R) (def_of F at.now.structure) (member_of at.now.member) (member_of x)
+        (rows_from rows.first rows.count)) result area.new }
 {
     let sub = x.subtype;
     match sub {
@@ -127,12 +133,19 @@ fn text_run(
                 stop_run(area, at, Fault::ZeroLengthStrings, 0);
                 return Ok(None);
             }
-            cell_run(sheet, area, Cell::Fixed(len as usize), len, 1, rows)
+            cell_run(
+                sheet,
+                area,
+                Cell::Fixed(len as usize),
+                len,
+                blocks::STRING,
+                rows,
+            )
         }
-        1..=3 => pointer_text_run(sheet, area, x.subtype, rows),
-        7 | 8 => cell_run(sheet, area, Cell::Hash, 4, 6, rows),
+        1..=3 => pointer_text_run(sheet, area, sub, rows),
+        7 | 8 => cell_run(sheet, area, Cell::Hash, 4, blocks::UINT, rows),
         _ => {
-            stop_run(area, at, Fault::StringArraySubtype, u32::from(x.subtype));
+            stop_run(area, at, Fault::StringArraySubtype, u32::from(sub));
             Ok(None)
         }
     }
@@ -151,7 +164,7 @@ fn enum_run(
 {
     let (entries, name) = named(schema, h);
     used(area, name);
-    cell_run(sheet, area, Cell::Enum(entries, 4), 4, 5, rows)
+    cell_run(sheet, area, Cell::Enum(entries, 4), 4, blocks::INT, rows)
 }
 
 // The name of the block of a run of integers, by width and type byte, as document 01 has it (docs/DECISIONS.md, 18).
@@ -159,12 +172,12 @@ fn integer_block(k: usize, ty: u8) -> u32
     ensures { result ≡ Runs.scalar_block (Kinds.integer k) ty }
 {
     if k <= 1 {
-        return 2;
+        return blocks::BYTE;
     }
     if k <= 2 {
-        return 4;
+        return blocks::SHORT;
     }
-    if ty == 5 { 5 } else { 6 }
+    if ty == 5 { blocks::INT } else { blocks::UINT }
 }
 
 // How many bytes a vector element has.
@@ -195,8 +208,15 @@ pub fn plain_element_run(
             let block = integer_block(k, x.kind);
             cell_run(sheet, area, Cell::Integer(k), k as u32, block, rows)
         }
-        Kind::Single => cell_run(sheet, area, Cell::Single, 4, 7, rows),
-        Kind::Vector(k) => cell_run(sheet, area, Cell::Vector(k), vector_stride(k), 1, rows),
+        Kind::Single => cell_run(sheet, area, Cell::Single, 4, blocks::FLOAT, rows),
+        Kind::Vector(k) => cell_run(
+            sheet,
+            area,
+            Cell::Vector(k),
+            vector_stride(k),
+            blocks::STRING,
+            rows,
+        ),
         Kind::Text => text_run(sheet, area, at, x, rows),
         Kind::Enumeration => enum_run(sheet, schema, area, x.reference, rows),
         Kind::Structure => Ok(None),

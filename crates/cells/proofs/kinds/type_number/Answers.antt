@@ -14,7 +14,7 @@ pub overflow_add-result : goal.overflow_add-result
 overflow_add-result c = omega (arith, (vector_few c.args.ty c.in-Vector.n _ c.kind_of.ensures c.in-Vector.is).1)
 
 pub returns-in-Integer : goal.returns-in-Integer
-returns-in-Integer c = number_of c.args.ty (K.Integer c.in-Integer.k) _ c.if-ty-eq0.false c.kind_of.ensures c.in-Integer.is
+returns-in-Integer c = number_of c.args.ty (K.Integer c.in-Integer.field-0) _ c.if-ty-eq0.false c.kind_of.ensures c.in-Integer.is
 
 pub returns-in-Single : goal.returns-in-Single
 returns-in-Single c = number_of c.args.ty K.Single _ c.if-ty-eq0.false c.kind_of.ensures c.in-Single.is

@@ -13,7 +13,7 @@ returns-then-not-fits c =
     let a = g.area.now in
     let t = g.at.now in
     let e = c.drop_to.ensures in
-    let f = c.say.ensures in
+    let f = c.too_small.ensures in
     record {
       same = same_then e.same f.same;
       did = embeds_wide a.round (length a.bytes.now) g.base a.progress a.bytes.now t.structure t.member a.safe c.requires.open c.requires.size_bound.0 c.requires.size_bound.1 _ _ _ _ _ _

@@ -5,20 +5,23 @@ use Rattle.choices.proofs.Naming.{pair_none, pair_one, pair_two}
 use Rattle.choices.proofs.Nths.{count_members, nth_read}
 use Rattle.choices.proofs.source.pair_source.Goals as goal
 
-pub returns-then-n-i : goal.returns-then-n-i
-returns-then-n-i c = λ T.
+pub returns-in_default : goal.returns-in_default
+returns-in_default c = λ T.
     let g = c.args in
-    sym (pair_none (def_of g.schema.now g.d) g.d.count (count_members g.schema.now g.d) g.r g.s _ c.next_named-i.ensures (rw c.from-n.ensures at c.if-n-i.true))
+    sym (pair_none (def_of g.schema.now g.d) g.d.count (count_members g.schema.now g.d) g.r g.s c.in_default.ensures)
 
-pub returns-then-n-j : goal.returns-then-n-j
-returns-then-n-j c = λ T.
+pub returns-in_default-next_named : goal.returns-in_default-next_named
+returns-in_default-next_named c = λ T.
     let g = c.args in
-    let a = nth_read g.schema.now g.d _ _ c.read_member-a.ensures (rw c.from-n.ensures at c.if-n-i.false) in
-    sym (pair_one (def_of g.schema.now g.d) g.d.count (count_members g.schema.now g.d) g.r g.s _ _ c.next_named-i.ensures a _ c.next_named-j.ensures (rw c.from-n.ensures at c.if-n-j.true))
+    let i = c.in-Some.ensures in
+    let a = nth_read g.schema.now g.d _ _ c.member-a.ensures i.few in
+    sym (pair_one (def_of g.schema.now g.d) g.d.count (count_members g.schema.now g.d) g.r g.s _ _ i a c.in_default-next_named.ensures)
 
 pub returns : goal.returns
 returns c = λ T.
     let g = c.args in
-    let a = nth_read g.schema.now g.d _ _ c.read_member-a.ensures (rw c.from-n.ensures at c.if-n-i.false) in
-    let b = nth_read g.schema.now g.d _ _ c.read_member-b.ensures (rw c.from-n.ensures at c.if-n-j.false) in
-    sym (pair_two (def_of g.schema.now g.d) g.d.count (count_members g.schema.now g.d) g.r g.s _ _ c.next_named-i.ensures a _ _ c.next_named-j.ensures b)
+    let i = c.in-Some.ensures in
+    let j = c.in-Some-next_named.ensures in
+    let a = nth_read g.schema.now g.d _ _ c.member-a.ensures i.few in
+    let b = nth_read g.schema.now g.d _ _ c.member-b.ensures j.few in
+    sym (pair_two (def_of g.schema.now g.d) g.d.count (count_members g.schema.now g.d) g.r g.s _ _ i a _ _ j b)

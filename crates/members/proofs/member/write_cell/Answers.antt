@@ -12,7 +12,7 @@ returns-then-not-fits c = λ F.
     let g = c.args in
     let t = g.at.now in
     let a = g.area.now in
-    also_ok c.say.ensures (λ h. cell_long a.round (length a.bytes.now) a.progress a.bytes.now g.sheet.now F t.structure t.member t.value g.need (cell_bytes g.sheet.now g.cell) g.name
+    also_ok c.too_small.ensures (λ h. cell_long a.round (length a.bytes.now) a.progress a.bytes.now g.sheet.now F t.structure t.member t.value g.need (cell_bytes g.sheet.now g.cell) g.name
     _ _ a.safe c.requires.open (sym c.fits.ensures ∙ c.if-not-fits.true) h)
 
 pub returns-in-Err-FloatText : goal.returns-in-Err-FloatText

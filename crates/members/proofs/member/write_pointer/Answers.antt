@@ -13,7 +13,7 @@ returns-then-not-fits c = λ F.
     let g = c.args in
     let t = g.at.now in
     let a = g.area.now in
-    also_ok c.say.ensures (λ h. pointer_long a.round (length a.bytes.now) a.progress a.bytes.now g.sheet.now F t.structure t.member t.value _ _ a.safe c.requires.open
+    also_ok c.too_small.ensures (λ h. pointer_long a.round (length a.bytes.now) a.progress a.bytes.now g.sheet.now F t.structure t.member t.value _ _ a.safe c.requires.open
     (rw (← c.slot_size.ensures.0) (sym c.fits.ensures ∙ c.if-not-fits.true)) h)
 
 pub returns-then-not-has_str : goal.returns-then-not-has_str
