@@ -13,8 +13,8 @@ use Rattle.layout.specs.Members.{need, put_counted}
 use Rattle.layout.specs.Runs.{Run}
 use Rattle.area.specs.declared.Round.{Round}
 use Rattle.area.specs.declared.Progress.{Progress}
-use Rattle.area.specs.Area.{items_at, stack_at, Rep}
-use Rattle.area.specs.Posts.{Safe, Open, Meets, Ans, gives, refuses}
+use Rattle.area.specs.Area.{stack_at, Rep}
+use Rattle.area.specs.Posts.{Meets, Ans, gives, refuses}
 use Rattle.cells.specs.declared.defs.Def.{Def}
 use Rattle.cells.specs.Names.{def_of, member_of}
 use Rattle.members.specs.Posts.{Fills, Went}

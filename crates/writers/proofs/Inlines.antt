@@ -32,7 +32,7 @@ use Rattle.members.specs.Posts.{remark_on, Buffer, Went, Fills}
 use Rattle.members.proofs.Filling.{def_size, need_yes, fills_as, said, too_long}
 use Rattle.choices.proofs.Meeting.{refused_on}
 use Rattle.choices.proofs.Choosing.{looked_name}
-use Rattle.writers.specs.Posts.{Of, Named, deeper, Started, Pushed, Pushes}
+use Rattle.writers.specs.Posts.{Of, Named, deeper, Started, Pushes}
 
 -- the name of a definition that was looked up stands for it
 pub looked_named : (F : Bytes) (S : Schema) (ref : ℕ) (i : Def) → schema_of F ≡ ok S → (winning S).struct ref ≡ Some (def_of F i) → Named F i S

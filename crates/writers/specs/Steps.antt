@@ -1,4 +1,4 @@
--- The same of areas, before and after.
+-- What a writer does to an area: the relations of Posts between two areas, before and after.
 use Rattle.std.specs.Prelude.{ℕ, Option, Result}
 use Rattle.numbers.specs.Words.{Bytes}
 use Rattle.numbers.specs.declared.refusal.Refusal.{Refusal}

@@ -19,10 +19,10 @@ use area::fault::Fault;
 use area::stack::shift;
 use cells::defs::{Def, high_half};
 use choices::choose::{
-    array_info, by_pointer, embed, is_array_value, is_struct_value, item_count, lay_run, own_type,
+    array_info, by_pointer, count_of, embed, is_array_value, is_struct_value, lay_run, own_type,
 };
-use choices::source::{Source, source_of, value_of};
-use definitions::members::{Member, read_member};
+use choices::source::Source;
+use definitions::members::{ARRAYINFO, Member};
 use members::member::write_plain;
 use members::rows::Rows;
 use members::slots::put_pointer;
@@ -62,14 +62,14 @@ impl Writer<'_> {
             ..*self
         };
         for k in 0..u32::from(d.count) {
-            let member = read_member(self.schema, d.place, k);
-            if member.name == 0x100 {
+            let member = d.member(self.schema, k);
+            if member.name == ARRAYINFO {
                 continue;
             }
             let at = Target {
                 structure: d,
                 member,
-                value: value_of(self.sheet, from, member.name),
+                value: from.value_of(self.sheet, member.name),
             };
             below.write_member(area, &at)?;
         }
@@ -123,22 +123,18 @@ impl Writer<'_> {
             (def_of self.now.schema.now at.now.structure) (member_of at.now.member)
             (Members.row_of (env_of self.now.sheet.now S R) at.now.value) buf) result area.new }
     {
-        let Target {
-            structure,
-            member,
-            value,
-        } = *at;
-        let Some(inner) = look_up(self.schema, member.reference) else {
-            at.say(area, Fault::NoStructure, member.reference);
+        let reference = at.member.reference;
+        let Some(inner) = look_up(self.schema, reference) else {
+            at.say(area, Fault::NoStructure, reference);
             return Ok(());
         };
         let size = inner.size as usize;
         if !at.fits(size) {
-            at.say(area, Fault::MemberSize, structure.size);
+            at.too_small(area);
             return Ok(());
         }
         let base = area.progress.top;
-        self.write_struct(area, inner, source_of(value))?;
+        self.write_struct(area, inner, Source::from(at.value))?;
         shift(area.bytes, base, at.place(base), size);
         area.progress.top = base;
         Ok(())
@@ -154,23 +150,18 @@ impl Writer<'_> {
             (def_of self.now.schema.now at.now.structure) (member_of at.now.member)
             (Members.row_of (env_of self.now.sheet.now S R) at.now.value) buf) result area.new }
     {
-        let Target {
-            structure,
-            member,
-            value,
-        } = *at;
         if !at.fits(8) {
-            at.say(area, Fault::MemberSize, structure.size);
+            at.too_small(area);
             return Ok(());
         }
-        let Some(r) = value else {
+        let Some(r) = at.value else {
             return Ok(());
         };
         if !read_row(self.sheet, r).is(Kind::Struct) {
             return Ok(());
         }
         let place = at.place(area.progress.top);
-        if let Some(x) = self.point_to(area, at, member.reference, r)? {
+        if let Some(x) = self.point_to(area, at, at.member.reference, r)? {
             put_pointer(area.bytes, place, x);
         }
         Ok(())
@@ -218,7 +209,7 @@ impl Writer<'_> {
             return Ok(());
         }
         let first = row.a;
-        let count = item_count(row);
+        let count = count_of(row, Kind::Array);
         if by_pointer(at.member.subtype, x.subtype) {
             return self.write_laid(area, at, x, Rows { first, count });
         }
@@ -241,9 +232,8 @@ impl Writer<'_> {
             (λ R S buf. Write.pointed_array (env_of self.now.sheet.now S R) (deeper self.now.sheet.now R self.now.left S)
             (def_of self.now.schema.now at.now.structure) (member_of at.now.member) (member_of x) (rows_from rows.first rows.count) buf) result area.new }
     {
-        let size = at.structure.size;
         if !at.fits(16) {
-            at.say(area, Fault::MemberSize, size);
+            at.too_small(area);
             return Ok(());
         }
         if rows.count == 0 {
@@ -258,7 +248,7 @@ impl Writer<'_> {
         lay_run(area, block, len, place, rows.count)
     }
 
-    // An embedded array: first the run with all that it lays, remarks and uses, then does it fit.
+    // An embedded array: first the run with all that it lays, remarks and uses, and then whether it fits.
     #[cycle(write)]
     fn write_embedded(
         &self,

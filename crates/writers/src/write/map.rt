@@ -13,8 +13,7 @@ ghost use Rattle.writers.specs.Posts.{Of, deeper};
 use crate::write::Writer;
 use area::Area;
 use area::fault::Fault;
-use cells::defs::reference_at;
-use choices::choose::{lay_run, pair_count};
+use choices::choose::{count_of, lay_run};
 use choices::elements::Items;
 use members::rows::Rows;
 use members::slots::put_pointer;
@@ -26,34 +25,30 @@ use value::value_row;
 impl Writer<'_> {
     // A map: an empty one still holds 0x01000000.
     #[cycle(write)]
-    pub fn write_map(&self, area: &mut Area<'_>, at: &Target) -> Result<(), Refusal>
+    pub(crate) fn write_map(&self, area: &mut Area<'_>, at: &Target) -> Result<(), Refusal>
         requires open { Open area.old.progress }
         requires buffer { Buffer area.old.round area.old.progress at.now.structure.size }
         ensures { Fills (Of self.now.schema.now) area.old at.now.structure.size
             (λ R S buf. Write.map_member (env_of self.now.sheet.now S R) (deeper self.now.sheet.now R self.now.left S)
             (def_of self.now.schema.now at.now.structure) (member_of at.now.member) at.now.value buf) result area.new }
     {
-        let Target {
-            structure,
-            member,
-            value,
-        } = *at;
-        if member.subtype != 1 {
-            at.say(area, Fault::MapSubtype, u32::from(member.subtype));
+        let sub = at.member.subtype;
+        if sub != 1 {
+            at.say(area, Fault::MapSubtype, u32::from(sub));
             return Ok(());
         }
         if !at.fits(24) {
-            at.say(area, Fault::MemberSize, structure.size);
+            at.too_small(area);
             return Ok(());
         }
-        let row = value_row(self.sheet, value);
-        if !row.is(Kind::Map) & !row.is(Kind::Null) {
+        let row = value_row(self.sheet, at.value);
+        if !row.is(Kind::Map) && !row.is(Kind::Null) {
             at.wrong(area);
             return Ok(());
         }
         put_pointer(area.bytes, at.place(area.progress.top), 0x01000000);
         let first = row.a;
-        let count = pair_count(row);
+        let count = count_of(row, Kind::Map);
         if count == 0 {
             return Ok(());
         }
@@ -71,7 +66,9 @@ impl Writer<'_> {
             (Members.reference_at (def_of self.now.schema.now at.now.structure) (Members.low16 at.now.member.reference))
             (Write.pairs_of (rows_from rows.first (2 * rows.count))) buf) result area.new }
     {
-        let h = reference_at(self.schema, at.structure, at.member.reference % 65536);
+        let h = at
+            .structure
+            .reference_at(self.schema, at.member.reference % 65536);
         let Some(inner) = look_up(self.schema, h) else {
             at.say(area, Fault::NoPair, h);
             return Ok(());

@@ -10,8 +10,8 @@ ghost use Rattle.runs.specs.Steps.{Yields};
 ghost use Rattle.writers.specs.Posts.{Of, Named, deeper, struct_run};
 
 use crate::write::Writer;
-use area::Area;
 use area::fault::Fault;
+use area::{Area, blocks};
 use cells::defs::Def;
 use choices::elements::Items;
 use definitions::members::Member;
@@ -24,10 +24,10 @@ use value::kind::Kind;
 use value::read_row;
 
 impl Writer<'_> {
-    // The rows as elements that x describes, by its type byte and subtype, as in `write_member`. x goes with the rows as far as here,
-    // where their kind is known, and is no part of them.
+    // The rows as elements that x describes, by its type byte and subtype, as in `write_member`. x goes beside the rows in five functions
+    // of runs and writers, and is no part of them, since `pointer_run` and `struct_run` go on without it.
     #[cycle(write)]
-    pub fn element_run(
+    pub(crate) fn element_run(
         &self,
         area: &mut Area<'_>,
         at: &Target,
@@ -80,12 +80,12 @@ impl Writer<'_> {
                 put_pointer(area.bytes, place, x);
             }
         }
-        Ok(Some(12))
+        Ok(Some(blocks::POINTER))
     }
 
     // A run of structures of the definition `inner`, or of a map's pairs.
     #[cycle(write)]
-    pub fn struct_run(
+    pub(crate) fn struct_run(
         &self,
         area: &mut Area<'_>,
         at: &Target,
@@ -101,7 +101,7 @@ impl Writer<'_> {
     {
         area.pay(rows.cost(inner.size))?;
         for k in 0..rows.count {
-            let r = items.row(rows.first, k);
+            let r = items.row(rows, k);
             items.note(self.sheet, area, at, r);
             self.write_struct(area, inner, items.source(self.schema, inner, r))?;
         }
