@@ -1,51 +1,54 @@
 // The blocks' rows: the table of places, PMAP, and PSIN and PMAP together.
-ghost use Rattle.std.specs.Prelude.{◌≡◌, ◌+◌, ◌*◌, ◌/◌, ◌≤◌, List, [], ◌∷◌, ◌++◌, length, take};
+// `SomeRows` is asked for by each and is no ghost field of a struct: the rows are cut out at two places, each time of a work area that
+// is whole (`SomeWhole`), and what makes such a struct would ask for the same.
+ghost use Rattle.std.specs.Prelude.{◌≡◌, ◌+◌, ◌*◌, ◌/◌, ◌^◌, ◌≤◌, ◌<◌, List, [], ◌∷◌, ◌++◌, length, take};
 ghost use Rattle.numbers.specs.Words.{read_at, bytes_of, words, over};
 ghost use Rattle.layout.specs.State.{Block, Core};
 ghost use Rattle.layout.specs.Assemble.{data_of, psin_of, block_rows, pmap_of};
 ghost use Rattle.layout.specs.Always.{total};
 ghost use Rattle.area.specs.Steps.{Same};
-ghost use Rattle.assemble.specs.Map.{Rows, SomeRows, Row, places_of, Whole, SomeWhole};
+ghost use Rattle.assemble.specs.Map.{Rows, SomeRows, places_of, Whole, SomeWhole};
 ghost use Rattle.assemble.specs.Packed.{table_at};
 
 use crate::data::write_data;
 use crate::parts::{items, rows, table};
-use area::{Area, write_four, write_two};
+use area::{Area, PLACES, write_words};
 use numbers::words::{read, write_u32};
 use psch::section::head;
 
-// A row of PMAP, of the block whose row stands at `row`; the next block's place.
-fn map_row(rows: &[u8], row: usize, place: u32, out: &mut [u8], to: usize) -> u32
-    requires row { Row rows.now row place }
+// A row of PMAP, of the block that has the row; the next block's place.
+fn map_row(row: &[u8], place: u32, out: &mut [u8], to: usize) -> u32
+    requires fits { place + read_at 4 row.now 4 < 256 ^ 4 }
     requires to_in_bounds { to + 16 ≤ length out.old }
-    ensures { (result ≡ place + read_at 4 rows.now (row + 4))
-        × (out.new ≡ over out.old to (words (read_at 4 rows.now row ∷ place ∷ 0 ∷ read_at 4 rows.now (row + 4) ∷ []))) }
+    ensures { (result ≡ place + read_at 4 row.now 4)
+        × (out.new ≡ over out.old to (words (read_at 4 row.now 0 ∷ place ∷ 0 ∷ read_at 4 row.now 4 ∷ []))) }
 {
-    let name = read::<u32>(rows, row);
-    let len = read::<u32>(rows, row + 4);
-    write_four(out, to, name, place, 0, len);
+    let name = read::<u32>(row, 0);
+    let len = read::<u32>(row, 4);
+    write_words(out, to, &[name, place, 0, len]);
     place + len
 }
 
-// The rows of PMAP, from the rows of the blocks.
+// The rows of PMAP, from the rows of the blocks. `put_places` is the same walk, adding up places. What is written in a turn is handed
+// in by no closure: it would lend the output to it, and is no plainer.
 fn map_rows(rows: &[u8], out: &mut [u8], at: usize)
     requires some_rows { SomeRows rows.now }
     requires room { at + 16 * (length rows.now / 8) ≤ length out.old }
     ensures { (bs : List Block) → Rows rows.now bs → out.new ≡ over out.old at (block_rows 16 bs) }
 {
     let mut place = 16;
-    for k in 0..rows.len() / 8 {
-        place = map_row(rows, 8 * k, place, out, at + 16 * k);
+    for (k, row) in rows.chunks_exact(8).enumerate() {
+        place = map_row(row, place, out, at + 16 * k);
     }
 }
 
-// A block's place into the table; the next block's place.
-fn table_row(rows: &[u8], row: usize, place: u32, table: &mut [u8], to: usize) -> u32
-    requires row { Row rows.now row place }
+// The place of the block that has the row, into the table; the next block's place.
+fn table_row(row: &[u8], place: u32, table: &mut [u8], to: usize) -> u32
+    requires fits { place + read_at 4 row.now 4 < 256 ^ 4 }
     requires to_in_bounds { to + 4 ≤ length table.old }
-    ensures { (result ≡ place + read_at 4 rows.now (row + 4)) × (table.new ≡ over table.old to (bytes_of 4 place)) }
+    ensures { (result ≡ place + read_at 4 row.now 4) × (table.new ≡ over table.old to (bytes_of 4 place)) }
 {
-    let len = read::<u32>(rows, row + 4);
+    let len = read::<u32>(row, 4);
     write_u32(table, to, place);
     place + len
 }
@@ -57,8 +60,8 @@ pub fn put_places(rows: &[u8], table: &mut [u8]) -> u32
     ensures { (bs : List Block) → Rows rows.now bs → (table.new ≡ over table.old 0 (words (places_of 16 bs))) × (result ≡ 16 + total bs) }
 {
     let mut place = 16;
-    for k in 0..rows.len() / 8 {
-        place = table_row(rows, 8 * k, place, table, 4 * k);
+    for (k, row) in rows.chunks_exact(8).enumerate() {
+        place = table_row(row, place, table, 4 * k);
     }
     place
 }
@@ -70,7 +73,7 @@ fn fill_table(work: &mut [u8], blocks: usize) -> u32
     requires room { (blocks ≤ 4095) × (65536 ≤ length work.old) }
     ensures { (bs : List Block) → Rows (take (8 * blocks) work.old) bs → (work.new ≡ over work.old table_at (words (places_of 16 bs))) × (result ≡ 16 + total bs) }
 {
-    let (rows, table) = work.split_at_mut(49152);
+    let (rows, table) = work.split_at_mut(PLACES);
     put_places(&rows[..8 * blocks], table)
 }
 
@@ -82,7 +85,7 @@ pub fn write_map(rows: &[u8], root: u32, out: &mut [u8], at: usize)
 {
     let n = (rows.len() / 8) as u32;
     head(out, at, b"PMAP", 16 + 16 * n);
-    write_two(out, at + 8, root, n * 65536 + 0x7070);
+    write_words(out, at + 8, &[root, n * 65536 + 0x7070]);
     map_rows(rows, out, at + 16);
 }
 

@@ -5,7 +5,7 @@ ghost use Rattle.layout.specs.State.{Core};
 ghost use Rattle.layout.specs.Assemble.{data_of};
 ghost use Rattle.assemble.specs.Scatter.{Ready, Held, Turn, placed, psin_sized};
 
-use area::write_two;
+use area::write_words;
 use numbers::words::{copy, read};
 use psch::section::head;
 
@@ -44,6 +44,6 @@ pub fn write_data(items: &[u8], table: &[u8], size: u32, out: &mut [u8])
         → out.new ≡ over out.old 0 (psin_sized size (data_of c)) }
 {
     head(out, 0, b"PSIN", size);
-    write_two(out, 8, 0, 0);
+    write_words(out, 8, &[0, 0]);
     scatter(items, table, out);
 }

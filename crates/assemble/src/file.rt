@@ -11,20 +11,20 @@ ghost use Rattle.assemble.specs.Packed.{lengths_in, length_of, Holds, Fitting, S
 
 use crate::blocks::assemble;
 use crate::parts::rows;
-use area::{Area, Round};
+use area::{Area, NAMES, PLACES, REMARKS, Round};
 use numbers::words::{clear, read};
-use psch::{definitions_length, put_schema, used};
+use psch::{Used, put_schema};
 use schema::kind::Kind;
 
 // The lengths of the blocks together, from their rows.
-#[tactic(auto, using(crate::proofs::Adding::left_first, crate::proofs::Adding::left_on, crate::proofs::Adding::left_done))]
+#[tactic(auto, using(crate::proofs::Adding::lengths_turn, crate::proofs::Adding::lengths_none))]
 fn data_length(rows: &[u8]) -> usize
     requires { length rows.now / 8 ≤ 4095 }
     ensures { (result ≡ lengths_in rows.now 0 (length rows.now / 8)) × (result ≤ 4294967296 * (length rows.now / 8)) }
 {
     let mut sum = 0;
-    for k in 0..rows.len() / 8 {
-        sum += read::<u32>(rows, 8 * k + 4) as usize;
+    for row in rows.chunks_exact(8) {
+        sum += read::<u32>(row, 4) as usize;
     }
     sum
 }
@@ -39,8 +39,8 @@ pub fn file_length(schema: &[u8], area: &Area<'_>) -> usize
     let blocks = area.progress.blocks;
     let data = data_length(rows(area));
     let heads = 16 + data + (16 + 16 * blocks) + 12;
-    let structs = definitions_length(schema, used(area, Kind::Structure), Kind::Structure, heads);
-    definitions_length(schema, used(area, Kind::Enum), Kind::Enum, structs)
+    let structs = Used::of(area, Kind::Structure).length(schema, heads);
+    Used::of(area, Kind::Enum).length(schema, structs)
 }
 
 // The file, from the first byte of `out` on; of the work area only the table of places is changed.
@@ -67,13 +67,13 @@ pub fn wipe(area: &mut Area<'_>)
 {
     let p = area.progress;
     let Round { entries, cap, .. } = area.round;
-    let items = 65536 + 8 * entries;
+    let items = NAMES + 8 * entries;
     let stack = items + cap;
     clear(area.bytes, 0, 8 * p.blocks);
-    clear(area.bytes, 32768, 16 * p.rows);
-    clear(area.bytes, 49152, 4 * p.blocks);
-    clear(area.bytes, 65536, 4 * p.structs);
-    clear(area.bytes, 65536 + 4 * entries, 4 * p.enums);
+    clear(area.bytes, REMARKS, 16 * p.rows);
+    clear(area.bytes, PLACES, 4 * p.blocks);
+    clear(area.bytes, NAMES, 4 * p.structs);
+    clear(area.bytes, NAMES + 4 * entries, 4 * p.enums);
     clear(area.bytes, items, p.end - items);
     clear(area.bytes, stack, p.top - stack);
 }

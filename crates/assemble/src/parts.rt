@@ -3,7 +3,7 @@ ghost use Rattle.std.specs.Prelude.{◌≡◌, ◌-◌, ◌*◌, take, drop};
 ghost use Rattle.area.specs.Area.{items_at};
 ghost use Rattle.assemble.specs.Packed.{table_at};
 
-use area::Area;
+use area::{Area, NAMES, PLACES};
 
 // The rows of the blocks.
 pub fn rows<'a>(area: &'a Area<'_>) -> &'a [u8]
@@ -16,12 +16,12 @@ pub fn rows<'a>(area: &'a Area<'_>) -> &'a [u8]
 pub fn table<'a>(area: &'a Area<'_>) -> &'a [u8]
     ensures { result.now ≡ take 16384 (drop table_at area.now.bytes.now) }
 {
-    &area.bytes[49152..65536]
+    &area.bytes[PLACES..NAMES]
 }
 
 // The laid items.
 pub fn items<'a>(area: &'a Area<'_>) -> &'a [u8]
     ensures { result.now ≡ take (area.now.progress.end - items_at area.now.round) (drop (items_at area.now.round) area.now.bytes.now) }
 {
-    &area.bytes[65536 + 8 * area.round.entries..area.progress.end]
+    &area.bytes[NAMES + 8 * area.round.entries..area.progress.end]
 }

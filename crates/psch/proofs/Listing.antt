@@ -4,7 +4,7 @@ use native.Mathlib.Omega.{arith}
 use mathlib.Core.Path.{◌≡◌, refl, sym, ◌∙◌, ap, ap₂, subst}
 use mathlib.Core.List.{List, [], ◌∷◌, ◌++◌, append_assoc}
 use lib.ListN.{length, take, drop, length-append, length-map, length-drop, take-append-drop}
-use lib.Seq.{length-take-le}
+use lib.Seq.{length-take-le, take_all, take_at, drop_at}
 use borrow.Author.Tests.{lt-ltb, le-ltb}
 use Rattle.schema.specs.declared.kind.Kind.{Kind}
 use Rattle.schema.specs.declared.kind.Kind.TheVariants.{Structure, Enum}
@@ -77,7 +77,7 @@ index_append at (r ∷ rs) qs =
     ap (λ (x : Bytes). words (r.0 ∷ at ∷ []) ++ x) (index_append (at + length r.1) rs qs ∙ ap (λ (n : ℕ). index_of (at + length r.1) rs ++ index_of n qs) z)
     ∙ sym (append_assoc (words (r.0 ∷ at ∷ [])) (index_of (at + length r.1) rs) (index_of (at + length (r.1 ++ bodies rs)) qs))
 
-length_names : (w : Bytes) (at n : ℕ) → length (names_in w at n) ≡ n
+pub length_names : (w : Bytes) (at n : ℕ) → length (names_in w at n) ≡ n
 unfolding names_in
 length_names w at zero = refl
 length_names w at (suc n) = ap suc (length_names w (at + 4) n)
@@ -110,169 +110,131 @@ part_named k R p w q h e = rw e (go k)
     go Structure = let t = part 65536 p.structs (omega (arith, h.structs, h.room)) in record { size = t.0; names = t.1 }
     go Enum = let t = part (65536 + 4 * R.entries) p.enums (omega (arith, h.enums, h.room)) in record { size = t.0; names = t.1 }
 
--- the loops: k names of those in w are done
-module _ (F w : Bytes) (e : Kind) where
-  abbrev count : ℕ
-  count = length w / 4
+-- the first of the names in bytes, and those behind it
+pub names_turn : (r x t : Bytes) (name : ℕ) → r ≡ x ++ t → length x ≡ 4 → name ≡ read_at 4 x 0 → names_of r ≡ name ∷ names_of t
+unfolding names_in
+names_turn r x t name e l q =
+    let s : length r ≡ 4 + length t = ap length e ∙ length-append x t ∙ omega (arith, l) in
+    let n : length r / 4 ≡ suc (length t / 4) = omega (arith, s) in
+    let a : take 4 (drop 0 r) ≡ x = ap (take 4) e ∙ take_at x t 4 l in
+    let b : take (length t) (drop 4 r) ≡ t = ap (λ (y : Bytes). take (length t) (drop 4 y)) e ∙ ap (take (length t)) (drop_at x t 4 l) ∙ take_all (length t) t (omega arith) in
+    ap (names_in r 0) n
+    ∙ ap₂ (λ (y : ℕ) (ys : List ℕ). y ∷ ys) (sym (read_part 4 r 0 4 0 (omega arith)) ∙ ap (λ (y : Bytes). read_at 4 y 0) a ∙ sym q)
+    (sym (names_part r 4 (length t) 0 (length t / 4) (omega arith)) ∙ ap (λ (y : Bytes). names_in y 0 (length t / 4)) b)
 
-  abbrev left_of : ℕ → List ℕ
-  left_of k = names_in w (4 * k) (count - k)
+pub names_none : (r : Bytes) → length r < 4 → names_of r ≡ []
+unfolding names_in
+names_none r h = let n : length r / 4 ≡ 0 = omega arith in ap (names_in r 0) n
 
-  abbrev pub rest : ℕ → Records
-  rest k = records_for F e (left_of k)
-
-  abbrev pub all : Records
-  all = records_for F e (names_of w)
-
-  names_on : (k : ℕ) → k < count → left_of k ≡ read_at 4 w (4 * k) ∷ left_of (k + 1)
-  unfolding names_in
-  names_on k h =
-      let a : count - k ≡ suc (count - (k + 1)) = omega arith in
-      let b : 4 * k + 4 ≡ 4 * (k + 1) = omega arith in
-      ap (names_in w (4 * k)) a ∙ ap (λ (n : ℕ). read_at 4 w (4 * k) ∷ names_in w n (count - (k + 1))) b
-
-  names_done : (k : ℕ) → count ≤ k → left_of k ≡ []
-  unfolding names_in
-  names_done k h = let a : count - k ≡ 0 = omega arith in ap (names_in w (4 * k)) a
-
-  count_left : (k : ℕ) → length (rest k) ≡ count - k
-  count_left k = count_records F w e (4 * k) (count - k)
-
-  names_first : (k : ℕ) → k ≡ 0 → left_of k ≡ names_of w
-  names_first k q = let a : 4 * k ≡ 0 = omega arith in let b : count - k ≡ count = omega arith in ap₂ (λ (x y : ℕ). names_in w x y) a b
-
-  -- the sum
-
-  pub record Summing (from sum k : ℕ) : Type 0 where
-    pub few : k ≤ count
+-- the loop that sums: of the names `all` those in ns are left
+module _ (F : Bytes) (e : Kind) (all : List ℕ) (from : ℕ) where
+  pub record Summing (sum : ℕ) (ns : List ℕ) : Type 0 where
     pub low : sum < 2 ^ 48
-    pub same : sum + size_of (rest k) ≡ from + size_of all
-    pub counts : counted_from F e sum (left_of k) ≡ counted_from F e from (names_of w)
+    pub same : sum + size_of (records_for F e ns) ≡ from + size_of (records_for F e all)
+    pub counts : counted_from F e sum ns ≡ counted_from F e from all
 
-  -- a name is counted, and none is any more
-  counted_on : (sum k n name : ℕ) → k < count → sum ≤ 16777216 → name ≡ read_at 4 w (4 * k) → n ≡ length (body_of F e name)
-      → counted_from F e (sum + (8 + n)) (left_of (k + 1)) ≡ counted_from F e sum (left_of k)
-  unfolding counted_from
-  counted_on sum k n name h l q m =
-      let z : n ≡ length (body_of F e (read_at 4 w (4 * k))) = m ∙ ap (λ (x : ℕ). length (body_of F e x)) q in
-      sym (ap (counted_from F e sum) (names_on k h) ∙ rw (le-ltb 16777216 sum l) (ap (λ (x : ℕ). counted_from F e (sum + (8 + x)) (left_of (k + 1))) (sym z)))
+  module _ (sum : ℕ) (ns : List ℕ) (s : Summing sum ns) where
+    -- a name is counted
+    pub sum_turn : (n name : ℕ) (rest : List ℕ) → ns ≡ name ∷ rest → sum ≤ 16777216 → (n ≡ length (body_of F e name)) × (n < 2 ^ 28) → Summing (sum + (8 + n)) rest
+    unfolding counted_from
+    sum_turn n name rest q l m =
+        let z : size_of (records_for F e ns) ≡ 8 + n + size_of (records_for F e rest) =
+        ap (λ (x : List ℕ). size_of (records_for F e x)) q ∙ size_cons (name, body_of F e name) (records_for F e rest) ∙ ap (λ (x : ℕ). 8 + x + size_of (records_for F e rest)) (sym m.0) in
+        let t : counted_from F e sum ns ≡ counted_from F e (sum + (8 + n)) rest =
+        ap (counted_from F e sum) q ∙ rw (le-ltb 16777216 sum l) (ap (λ (x : ℕ). counted_from F e (sum + (8 + x)) rest) (sym m.0)) in
+        record { low = omega (arith, l, m.1); same = omega (arith, s.same, z); counts = sym t ∙ s.counts }
 
-  counted_stops : (sum : ℕ) (ns : List ℕ) → 16777216 < sum → counted_from F e sum ns ≡ sum
-  unfolding counted_from
-  counted_stops sum [] h = refl
-  counted_stops sum (n ∷ ns) h = rw (lt-ltb 16777216 sum h) refl
+    pub long_counts : 16777216 < sum → Counts sum (from + size_of (records_for F e all))
+    long_counts h = record { exact = λ g. absurd (omega (arith, g, h)); long = λ g. omega (arith, s.same, h) }
 
-  pub sum_begin : (from : ℕ) → from < 2 ^ 48 → Summing from from 0
-  sum_begin from h =
+    pub long_same : 16777216 < sum → sum ≡ counted_from F e from all
+    unfolding counted_from
+    long_same h = sym (stops ns) ∙ s.counts
+      where
+        stops : (x : List ℕ) → counted_from F e sum x ≡ sum
+        stops [] = refl
+        stops (x ∷ xs) = rw (lt-ltb 16777216 sum h) refl
+
+    pub sum_last : ns ≡ [] → Counts sum (from + size_of (records_for F e all)) × (sum < 2 ^ 48) × (sum ≡ counted_from F e from all)
+    unfolding joined counted_from
+    sum_last q =
+        let z : size_of (records_for F e ns) ≡ 0 = ap (λ (x : List ℕ). size_of (records_for F e x)) q in
+        let t : sum ≡ from + size_of (records_for F e all) = omega (arith, s.same, z) in
+        (record { exact = λ g. t; long = λ g. omega (arith, g, t) }, s.low, ap (counted_from F e sum) (sym q) ∙ s.counts)
+
+-- the loop that writes: of the names `all` k are done, and those in ns are left
+module _ (F : Bytes) (e : Kind) (all : List ℕ) (o₀ : Bytes) (index to : ℕ) where
+  abbrev rs : List ℕ → Records
+  rs ns = records_for F e ns
+
+  pub record Putting (at k : ℕ) (o : Bytes) (ns : List ℕ) : Type 0 where
+    pub many : k + length ns ≡ length all
+    pub long : length o ≡ length o₀
+    pub stored : Every (Stored F e) ns
+    pub ends : at + length (bodies (records_for F e ns)) ≡ to + length (bodies (records_for F e all))
+    pub behind : to ≤ at
+    pub same : over (over o (index + 8 * k) (index_of at (records_for F e ns))) at (bodies (records_for F e ns))
+        ≡ over (over o₀ index (index_of to (records_for F e all))) to (bodies (records_for F e all))
+
+  pub put_begin : Every (Stored F e) all → Putting to 0 o₀ all
+  put_begin s =
+      let z : index + 8 * 0 ≡ index = omega arith in
       record {
-        few = omega arith;
-        low = h;
-        same = ap (λ (ns : List ℕ). from + size_of (records_for F e ns)) (names_first 0 refl);
-        counts = ap (counted_from F e from) (names_first 0 refl);
+        many = omega arith;
+        long = refl;
+        stored = s;
+        ends = refl;
+        behind = omega arith;
+        same = ap (λ (n : ℕ). over (over o₀ n (index_of to (rs all))) to (bodies (rs all))) z;
       }
 
-  pub sum_turn : (from sum k n name : ℕ) → Summing from sum k → k < count → sum ≤ 16777216 → name ≡ read_at 4 w (4 * k) → (n ≡ length (body_of F e name)) × (n < 2 ^ 28)
-      → Summing from (sum + (8 + n)) (k + 1)
-  sum_turn from sum k n name s h l q m =
-      let z : size_of (rest k) ≡ 8 + n + size_of (rest (k + 1)) =
-      ap (λ (ns : List ℕ). size_of (records_for F e ns)) (names_on k h) ∙ size_cons (read_at 4 w (4 * k), body_of F e (read_at 4 w (4 * k))) (rest (k + 1))
-      ∙ ap (λ (x : ℕ). 8 + x + size_of (rest (k + 1))) (ap (λ (x : ℕ). length (body_of F e x)) (sym q) ∙ sym m.0) in
-      record { few = omega arith; low = omega (arith, l, m.1); same = omega (arith, s.same, z); counts = counted_on sum k n name h l q m.0 ∙ s.counts }
+  module _ (fits : index + 8 * length all ≤ to) (room : to + length (bodies (records_for F e all)) ≤ length o₀) (at k : ℕ) (o : Bytes) (ns : List ℕ) (p : Putting at k o ns) where
+    pub put_last : ns ≡ [] → (at ≡ to + length (bodies (records_for F e all)))
+        × (o ≡ over (over o₀ index (index_of to (records_for F e all))) to (bodies (records_for F e all)))
+    unfolding joined index_of
+    put_last q =
+        let z : at + 0 ≡ to + length (bodies (rs all)) = ap (λ (x : List ℕ). at + length (bodies (rs x))) (sym q) ∙ p.ends in
+        let s : over (over o (index + 8 * k) []) at [] ≡ over (over o₀ index (index_of to (rs all))) to (bodies (rs all)) =
+        ap (λ (x : List ℕ). over (over o (index + 8 * k) (index_of at (rs x))) at (bodies (rs x))) (sym q) ∙ p.same in
+        (omega (arith, z), sym (over_none (over o (index + 8 * k) []) at ∙ over_none o (index + 8 * k)) ∙ s)
 
-  abbrev Summed : ℕ → ℕ → Type 0
-  Summed from sum = Counts sum (from + size_of all) × (sum < 2 ^ 48) × (sum ≡ counted_from F e from (names_of w))
+    module _ (name : ℕ) (rest : List ℕ) (q : ns ≡ name ∷ rest) where
+      abbrev one : ℕ × Bytes
+      one = (name, body_of F e name)
 
-  pub sum_long : (from sum k : ℕ) → Summing from sum k → 16777216 < sum → Summed from sum
-  sum_long from sum k s h =
-      (record { exact = λ g. absurd (omega (arith, g, h)); long = λ g. omega (arith, s.same, h) }, s.low, sym (counted_stops sum (left_of k) h) ∙ s.counts)
+      more : k + (1 + length rest) ≡ length all
+      more = omega (arith, p.many, ap length q)
 
-  pub sum_last : (from sum k : ℕ) → Summing from sum k → count ≤ k → Summed from sum
-  unfolding joined counted_from
-  sum_last from sum k s h =
-      let z : size_of (rest k) ≡ 0 = ap (λ (ns : List ℕ). size_of (records_for F e ns)) (names_done k h) in
-      let q : sum ≡ from + size_of all = omega (arith, s.same, z) in
-      (record { exact = λ g. q; long = λ g. omega (arith, g, q) }, s.low, ap (counted_from F e sum) (sym (names_done k h)) ∙ s.counts)
+      ends_at : at + (length (body_of F e name) + length (bodies (rs rest))) ≡ to + length (bodies (rs all))
+      ends_at =
+          let z : length (bodies (rs ns)) ≡ length (body_of F e name) + length (bodies (rs rest)) =
+          ap (λ (x : List ℕ). length (bodies (rs x))) q ∙ ap length (bodies_cons one (rs rest)) ∙ length-append (body_of F e name) (bodies (rs rest)) in
+          omega (arith, z, p.ends)
 
-  -- the writing
+      pub put_turn : Stored F e name × ((index + 8 * k + 8 ≤ at) × (at + length (body_of F e name) ≤ length o)
+          × (at + length (body_of F e name) ≤ to + length (bodies (records_for F e all))))
+      put_turn = ((subst (Every (Stored F e)) q p.stored).0, (omega (arith, fits, more, p.behind), omega (arith, ends_at, room, p.long), omega (arith, ends_at)))
 
-  module _ (o₀ : Bytes) (index to : ℕ) where
-    pub record Putting (at k : ℕ) (o : Bytes) : Type 0 where
-      pub few : k ≤ count
-      pub long : length o ≡ length o₀
-      pub stored : Every (Stored F e) (left_of k)
-      pub ends : at + length (bodies (rest k)) ≡ to + length (bodies all)
-      pub behind : to ≤ at
-      pub same : over (over o (index + 8 * k) (index_of at (rest k))) at (bodies (rest k)) ≡ over (over o₀ index (index_of to all)) to (bodies all)
-
-    pub put_begin : Every (Stored F e) (names_of w) → Putting to 0 o₀
-    put_begin s =
-        let f : left_of 0 ≡ names_of w = names_first 0 refl in
-        let z : index + 8 * 0 ≡ index = omega arith in
-        record {
-          few = omega arith;
-          long = refl;
-          stored = subst (Every (Stored F e)) (sym f) s;
-          ends = ap (λ (ns : List ℕ). to + length (bodies (records_for F e ns))) f;
-          behind = omega arith;
-          same = ap₂ (λ (ns : List ℕ) (n : ℕ). over (over o₀ n (index_of to (records_for F e ns))) to (bodies (records_for F e ns))) f z;
-        }
-
-    module _ (fits : index + 8 * count ≤ to) (room : to + length (bodies all) ≤ length o₀) (at k : ℕ) (o : Bytes) (p : Putting at k o) where
-      pub put_last : count ≤ k → (at ≡ to + length (bodies all)) × (o ≡ over (over o₀ index (index_of to all)) to (bodies all))
-      unfolding joined index_of
-      put_last h =
-          let f : left_of k ≡ [] = names_done k h in
-          let z : at + 0 ≡ to + length (bodies all) = ap (λ (ns : List ℕ). at + length (bodies (records_for F e ns))) (sym f) ∙ p.ends in
-          let s : over (over o (index + 8 * k) []) at [] ≡ over (over o₀ index (index_of to all)) to (bodies all) =
-          ap (λ (ns : List ℕ). over (over o (index + 8 * k) (index_of at (records_for F e ns))) at (bodies (records_for F e ns))) (sym f) ∙ p.same in
-          (omega (arith, z), sym (over_none (over o (index + 8 * k) []) at ∙ over_none o (index + 8 * k)) ∙ s)
-
-      module _ (h : k < count) (name : ℕ) (q : name ≡ read_at 4 w (4 * k)) where
-        on : left_of k ≡ name ∷ left_of (k + 1)
-        on = names_on k h ∙ ap (λ (n : ℕ). n ∷ left_of (k + 1)) (sym q)
-
-        abbrev one : ℕ × Bytes
-        one = (name, body_of F e name)
-
-        ends_at : at + (length (body_of F e name) + length (bodies (rest (k + 1)))) ≡ to + length (bodies all)
-        ends_at =
-            let z : length (bodies (rest k)) ≡ length (body_of F e name) + length (bodies (rest (k + 1))) =
-            ap (λ (ns : List ℕ). length (bodies (records_for F e ns))) on ∙ ap length (bodies_cons one (rest (k + 1))) ∙ length-append (body_of F e name) (bodies (rest (k + 1))) in
-            omega (arith, z, p.ends)
-
-        pub put_turn : Stored F e name × ((index + 8 * k + 8 ≤ at) × (at + length (body_of F e name) ≤ length o) × (at + length (body_of F e name) ≤ to + length (bodies all)))
-        put_turn = ((subst (Every (Stored F e)) on p.stored).0, (omega (arith, fits, h, p.behind), omega (arith, ends_at, room, p.long), omega (arith, ends_at)))
-
-        pub put_again : (o' : Bytes) (at' : ℕ) → length o' ≡ length o → at' ≡ at + length (body_of F e name) → o' ≡ over (over o (index + 8 * k) (words (name ∷ at ∷ []))) at (body_of F e name)
-            → Putting at' (k + 1) o'
-        put_again o' at' l ea eo =
-            let i = index + 8 * k in
-            let j = index + 8 * (k + 1) in
-            let W : Bytes = words (name ∷ at ∷ []) in
-            let B : Bytes = body_of F e name in
-            let rs : Records = rest (k + 1) in
-            let I : Bytes = index_of at' rs in
-            let J : Bytes = bodies rs in
-            let lw : length W ≡ 8 = length_words (name ∷ at ∷ []) in
-            let li : length I ≡ 8 * (count - (k + 1)) = index_length at' rs ∙ ap (λ (n : ℕ). 8 * n) (count_left (k + 1)) in
-            let ia : index_of at (one ∷ rs) ≡ W ++ I = index_cons at one rs ∙ ap (λ (n : ℕ). W ++ index_of n rs) (sym ea) in
-            let s : over (over o i (W ++ I)) at (B ++ J) ≡ over (over o i (index_of at (rest k))) at (bodies (rest k)) =
-            ap₂ (λ (x y : Bytes). over (over o i x) at y) (sym ia) (sym (bodies_cons one rs)) ∙ ap (λ (ns : List ℕ). over (over o i (index_of at (records_for F e ns))) at (bodies (records_for F e ns))) (sym on) in
-            record {
-              few = omega arith;
-              long = l ∙ p.long;
-              stored = (subst (Every (Stored F e)) on p.stored).1;
-              ends = omega (arith, ends_at, ea);
-              behind = omega (arith, p.behind, ea);
-              same = ap (λ (x : Bytes). over (over x j I) at' J) eo
-                  ∙ over_both o i j at at' W I B J (omega (arith, lw)) (sym ea) (omega (arith, li, fits, h, p.behind)) (omega (arith, ea, ends_at, room, p.long)) ∙ s ∙ p.same;
-            }
-
--- the same, with the words of the contract
-pub long_counts : (F w : Bytes) (e : Kind) (from sum k : ℕ) → Summing F w e from sum k → 16777216 < sum
-    → Counts sum (from + size_of (records_for F e (names_of w)))
-long_counts F w e from sum k s h = (sum_long F w e from sum k s h).0
-
-pub long_same : (F w : Bytes) (e : Kind) (from sum k : ℕ) → Summing F w e from sum k → 16777216 < sum
-    → sum ≡ counted_from F e from (names_of w)
-long_same F w e from sum k s h = (sum_long F w e from sum k s h).2
+      pub put_again : (o' : Bytes) (at' : ℕ) → length o' ≡ length o → at' ≡ at + length (body_of F e name) → o' ≡ over (over o (index + 8 * k) (words (name ∷ at ∷ []))) at (body_of F e name)
+          → Putting at' (k + 1) o' rest
+      put_again o' at' l ea eo =
+          let i = index + 8 * k in
+          let j = index + 8 * (k + 1) in
+          let W : Bytes = words (name ∷ at ∷ []) in
+          let B : Bytes = body_of F e name in
+          let I : Bytes = index_of at' (rs rest) in
+          let J : Bytes = bodies (rs rest) in
+          let lw : length W ≡ 8 = length_words (name ∷ at ∷ []) in
+          let li : length I ≡ 8 * length rest = index_length at' (rs rest) ∙ ap (λ (n : ℕ). 8 * n) (length-map rest (λ m. (m, body_of F e m))) in
+          let ia : index_of at (one ∷ rs rest) ≡ W ++ I = index_cons at one (rs rest) ∙ ap (λ (n : ℕ). W ++ index_of n (rs rest)) (sym ea) in
+          let s : over (over o i (W ++ I)) at (B ++ J) ≡ over (over o i (index_of at (rs ns))) at (bodies (rs ns)) =
+          ap₂ (λ (x y : Bytes). over (over o i x) at y) (sym ia) (sym (bodies_cons one (rs rest))) ∙ ap (λ (x : List ℕ). over (over o i (index_of at (rs x))) at (bodies (rs x))) (sym q) in
+          record {
+            many = omega (arith, more);
+            long = l ∙ p.long;
+            stored = (subst (Every (Stored F e)) q p.stored).1;
+            ends = omega (arith, ends_at, ea);
+            behind = omega (arith, p.behind, ea);
+            same = ap (λ (x : Bytes). over (over x j I) at' J) eo
+                ∙ over_both o i j at at' W I B J (omega (arith, lw)) (sym ea) (omega (arith, li, fits, more, p.behind)) (omega (arith, ea, ends_at, room, p.long)) ∙ s ∙ p.same;
+          }

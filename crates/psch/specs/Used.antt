@@ -11,6 +11,7 @@ use Rattle.layout.specs.Assemble.{struct_bytes, enum_bytes, Records, bodies}
 use Rattle.area.specs.declared.Round.{Round}
 use Rattle.area.specs.declared.Progress.{Progress}
 use Rattle.area.specs.Rows.{names_in}
+use Rattle.psch.specs.declared.Used.{Used}
 
 -- the bytes of the structure or the enum at a place of the schema file; its name is not among them
 abbrev pub definition_at : Bytes → Kind → ℕ → Bytes
@@ -45,6 +46,14 @@ pub record Stored (F : Bytes) (k : Kind) (name : ℕ) : Type 0 where
   pub found : last_place F (kind_number k) name ≡ Some place
   pub lies : Lies F k place
 
+-- the names in bytes that hold nothing else
+abbrev pub names_of : Bytes → List ℕ
+names_of b = names_in b 0 (length b / 4)
+
+-- the used definitions of a kind with their bytes
+abbrev pub definitions_of : Bytes → Used → Records
+definitions_of F u = records_for F u.kind (names_of u.names.now)
+
 -- where the used names of a kind begin in the work area
 abbrev pub names_at : Kind → Round → ℕ
 names_at Structure R = 65536
@@ -58,10 +67,6 @@ names_count Enum p = p.enums
 -- they themselves
 abbrev pub used_names : Kind → Round → Progress → Bytes → List ℕ
 used_names k R p w = names_in w (names_at k R) (names_count k p)
-
--- the names in bytes that hold nothing else
-abbrev pub names_of : Bytes → List ℕ
-names_of b = names_in b 0 (length b / 4)
 
 -- the bytes b hold the used names of a kind
 pub record Names (k : Kind) (R : Round) (p : Progress) (w b : Bytes) : Type 0 where

@@ -5,9 +5,9 @@ ghost use Rattle.std.specs.Prelude.{◌≡◌, [], ◌∷◌, ◌+◌, ◌*◌, 
 ghost use Rattle.numbers.specs.Words.{words, over};
 ghost use Rattle.numbers.specs.Result.{Every};
 ghost use Rattle.layout.specs.Assemble.{index_of, psch_bytes, bodies};
-ghost use Rattle.psch.specs.Used.{definition_at, body_of, records_for, size_of, counted_from, used_records, names_of, Names, Lies, Stored, AllStored, Counts};
+ghost use Rattle.psch.specs.Used.{definition_at, body_of, definitions_of, size_of, counted_from, used_records, names_of, Names, Lies, Stored, AllStored, Counts};
 
-use area::{Area, write_two};
+use area::{Area, NAMES, write_words};
 use definitions::lookup::find;
 use definitions::members::{entry_count, read_head};
 use numbers::words::{read, write, write_u32};
@@ -40,34 +40,11 @@ fn body_length(schema: &[u8], kind: Kind, name: u32) -> usize
     }
 }
 
-// The used names of a kind, 4 bytes each, as they stand in the work area.
-#[tactic(auto, using(crate::proofs::Listing::part_named))]
-pub fn used<'a>(area: &'a Area<'_>, kind: Kind) -> &'a [u8]
-    ensures { Names kind area.now.round area.now.progress area.now.bytes.now result.now }
-{
-    let (at, count) = match kind {
-        Kind::Structure => (65536, area.progress.structs),
-        Kind::Enum => (65536 + 4 * area.round.entries, area.progress.enums),
-    };
-    &area.bytes[at..at + 4 * count]
-}
-
-// What the definitions of the names take in PSCH, added to `from`; no further than to 16,777,216.
-#[tactic(auto, using(crate::proofs::Listing::sum_begin, crate::proofs::Listing::long_counts, crate::proofs::Listing::long_same))]
-pub fn definitions_length(schema: &[u8], names: &[u8], kind: Kind, from: usize) -> usize
-    requires { from < 2 ^ 48 }
-    ensures { Counts result (from + size_of (records_for schema.now kind (names_of names.now))) × (result < 2 ^ 48)
-        × (result ≡ counted_from schema.now kind from (names_of names.now)) }
-{
-    let mut sum = from;
-    for k in 0..names.len() / 4 {
-        if 16777216 < sum {
-            return sum;
-        }
-        let name = read::<u32>(names, 4 * k);
-        sum += 8 + body_length(schema, kind, name);
-    }
-    sum
+// The used definitions of a kind: their names, 4 bytes each, as they stand in the work area.
+#[derive(Clone, Copy)]
+pub struct Used<'a> {
+    pub kind: Kind,
+    pub names: &'a [u8],
 }
 
 // The definition at a place, of `len` bytes: its members begin 12 bytes behind its start, where 4 are zero.
@@ -105,7 +82,7 @@ fn put_record(
     match find(schema, kind, name) {
         Some(place) => {
             let len = definition_length(schema, kind, place);
-            write_two(out, index, name, to as u32);
+            write_words(out, index, &[name, to as u32]);
             put_definition(schema, kind, place, len, out, to);
             to + len
         }
@@ -113,30 +90,58 @@ fn put_record(
     }
 }
 
-// The index entries from `index` on and the definitions from `to` on, of the names; where the last definition ends.
-#[tactic(auto, using(crate::proofs::Listing::put_begin, crate::proofs::Listing::put_last))]
-fn put_records(
-    schema: &[u8],
-    names: &[u8],
-    kind: Kind,
-    out: &mut [u8],
-    index: usize,
-    to: usize,
-) -> usize
-    requires room { index + 8 * (length names.now / 4) ≤ to }
-    requires every { Every (Stored schema.now kind) (names_of names.now) }
-    requires ends { (to + length (bodies (records_for schema.now kind (names_of names.now))) ≤ length out.old)
-        × (to + length (bodies (records_for schema.now kind (names_of names.now))) < 2 ^ 32) }
-    ensures { (result ≡ to + length (bodies (records_for schema.now kind (names_of names.now))))
-        × (out.new ≡ over (over out.old index (index_of to (records_for schema.now kind (names_of names.now))))
-        to (bodies (records_for schema.now kind (names_of names.now)))) }
-{
-    let mut at = to;
-    for k in 0..names.len() / 4 {
-        let name = read::<u32>(names, 4 * k);
-        at = put_record(schema, kind, name, out, index + 8 * k, at);
+impl<'a> Used<'a> {
+    // The used definitions of a kind.
+    #[tactic(auto, using(crate::proofs::Listing::part_named))]
+    pub fn of(area: &'a Area<'_>, kind: Kind) -> Used<'a>
+        ensures kind { result.kind ≡ kind }
+        ensures names { Names kind area.now.round area.now.progress area.now.bytes.now result.names.now }
+    {
+        let (at, count) = match kind {
+            Kind::Structure => (NAMES, area.progress.structs),
+            Kind::Enum => (NAMES + 4 * area.round.entries, area.progress.enums),
+        };
+        Used {
+            kind,
+            names: &area.bytes[at..at + 4 * count],
+        }
     }
-    at
+
+    // What the definitions take in PSCH, added to `from`; no further than to 16,777,216.
+    #[tactic(auto, using(crate::proofs::Listing::long_counts, crate::proofs::Listing::long_same))]
+    pub fn length(&self, schema: &[u8], from: usize) -> usize
+        requires { from < 2 ^ 48 }
+        ensures { Counts result (from + size_of (definitions_of schema.now self.now)) × (result < 2 ^ 48)
+            × (result ≡ counted_from schema.now self.now.kind from (names_of self.now.names.now)) }
+    {
+        let mut sum = from;
+        for name in self.names.chunks_exact(4) {
+            if 16777216 < sum {
+                return sum;
+            }
+            sum += 8 + body_length(schema, self.kind, read::<u32>(name, 0));
+        }
+        sum
+    }
+
+    // The index entries from `index` on and the definitions from `to` on; where the last definition ends.
+    #[tactic(auto, using(crate::proofs::Listing::put_begin))]
+    fn put(&self, schema: &[u8], out: &mut [u8], index: usize, to: usize) -> usize
+        requires room { index + 8 * (length self.now.names.now / 4) ≤ to }
+        requires every { Every (Stored schema.now self.now.kind) (names_of self.now.names.now) }
+        requires ends { (to + length (bodies (definitions_of schema.now self.now)) ≤ length out.old)
+            × (to + length (bodies (definitions_of schema.now self.now)) < 2 ^ 32) }
+        ensures { (result ≡ to + length (bodies (definitions_of schema.now self.now)))
+            × (out.new ≡ over (over out.old index (index_of to (definitions_of schema.now self.now)))
+            to (bodies (definitions_of schema.now self.now))) }
+    {
+        let mut at = to;
+        for (k, name) in self.names.chunks_exact(4).enumerate() {
+            let name = read::<u32>(name, 0);
+            at = put_record(schema, self.kind, name, out, index + 8 * k, at);
+        }
+        at
+    }
 }
 
 // PSCH, from the first byte of `out` on: the head is written last, when the size is known.
@@ -150,22 +155,8 @@ pub fn put_schema(schema: &[u8], area: &Area<'_>, out: &mut [u8])
     let structs = area.progress.structs;
     let n = structs + area.progress.enums;
     let to = 12 + 8 * n;
-    let mid = put_records(
-        schema,
-        used(area, Kind::Structure),
-        Kind::Structure,
-        out,
-        12,
-        to,
-    );
-    let end = put_records(
-        schema,
-        used(area, Kind::Enum),
-        Kind::Enum,
-        out,
-        12 + 8 * structs,
-        mid,
-    );
+    let mid = Used::of(area, Kind::Structure).put(schema, out, 12, to);
+    let end = Used::of(area, Kind::Enum).put(schema, out, 12 + 8 * structs, mid);
     head(out, 0, b"PSCH", end as u32);
     write_u32(out, 8, n as u32);
 }

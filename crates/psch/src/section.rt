@@ -5,6 +5,7 @@ ghost use Rattle.numbers.specs.Words.{Octets, number, words, over, name_bytes};
 use numbers::words::{copy, part_from, part_to, write_name, write_u32};
 
 // Copies the n bytes of `s` at `from` to `to`; those that are there, where `s` ends before.
+// Two numbers for a part that may end behind `s`, which a slice cannot say.
 pub fn copy_part(s: &[u8], from: usize, n: usize, out: &mut [u8], to: usize)
     requires { to + n ≤ length out.old }
     ensures { out.new ≡ over out.old to (take n (drop from s.now)) }

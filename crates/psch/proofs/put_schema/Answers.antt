@@ -5,7 +5,7 @@ use Rattle.psch.proofs.put_schema.Goals as goal
 pub returns : goal.returns
 returns c =
     let a = c.args.area.now in
-    let r = c.put_records-mid in
-    let q = c.put_records-end in
+    let r = c.put-mid in
+    let q = c.put-end in
     used_put c.args.schema.now a.round a.progress a.bytes.now r.result q.result c.args.out.now r.new.out q.new.out c.head.new.out c.write_u32.new.s
-    c.requires.size.0 (rw c.used.ensures.names at r.ensures) (rw c.used-2.ensures.names at q.ensures) c.head.ensures c.write_u32.ensures
+    c.requires.size.0 (rw (c.of.ensures.kind, c.of.ensures.names.names) at r.ensures) (rw (c.of-2.ensures.kind, c.of-2.ensures.names.names) at q.ensures) c.head.ensures c.write_u32.ensures

@@ -1,40 +1,44 @@
 -- `assemble::blocks::put_places` meets its contract. Assumes nothing.
-use Prim.Native.Nat.{◌+◌, ◌*◌}
 use mathlib.Core.Path.{refl, ◌∙◌}
 use native.Mathlib.Omega.{arith}
-use Rattle.numbers.specs.Words.{bytes_of}
-use Rattle.assemble.proofs.Maps.{begin, turn, again, last, sum, table_part, table_all, table_parts}
+use Rattle.assemble.proofs.Maps.{taken, begin, turn, again, last, table_part, table_all, table_parts}
 use Rattle.assemble.proofs.blocks.put_places.Goals as goal
 
 pub loop-k-init : goal.loop-k-init
 loop-k-init c =
-    let a = c.args in
-    (refl, λ bs r. begin table_part table_all 4 table_parts bs a.rows.now a.table.now 0 0 refl r)
+    let e = c.enumerate-k-items.ensures in
+    let s = c.chunks_exact.ensures in
+    rw (c.into_iter-k-iterator.ensures.into_iter_gives, e.source, e.count, s.rest, s.size)
+    (refl, omega arith, refl, λ bs r. begin table_part table_all 4 table_parts bs _ 0 _ _ (omega arith) r)
 
-pub table_row-place-requires-clause-row : goal.table_row-place-requires-clause-row
-table_row-place-requires-clause-row c =
-    let a = c.args in
-    let s = c.requires.some_rows in
-    turn table_part table_all 4 table_parts s.blocks a.rows.now a.table.now 0 (c.loop-k.invariant.1 s.blocks s.held) c.loop-k-test.true
+pub table_row-place-requires : goal.table_row-place-requires
+table_row-place-requires c =
+    let l = c.loop-k in
+    let s = c.in-Some.ensures.steps in
+    let x = s.0.1.1 ∙ l.invariant.0 in
+    let t = taken _ _ _ _ _ s.0.1.0 x l.invariant.1 in
+    record {
+      fits = turn table_part table_all 4 table_parts _ _ _ _ _ _ _ (l.invariant.3 _ c.requires.some_rows.held) _ _ s.0.1.0 x;
+      to_in_bounds = omega (arith, c.requires.room, s.1, t.0, l.invariant.2);
+    }
 
 pub loop-k-preserved : goal.loop-k-preserved
 loop-k-preserved c =
-    let a = c.args in
     let l = c.loop-k in
-    let k = l.k in
-    let p = c.table_row-place in (
-      p.auto.table ∙ l.invariant.0,
-      λ bs r. again table_part table_all 4 table_parts bs a.rows.now a.table.now 0 k l.place (4 * k) l.table c.loop-k-test.true
-          (bytes_of 4 l.place) p.new.table p.result (4 * (k + 1))
-          (λ b en el. refl)
-          p.ensures.0 (omega arith) (omega (arith, c.requires, c.loop-k-test.true, l.invariant.0)) p.ensures.1 (l.invariant.1 bs r),
+    let s = c.in-Some.ensures.steps in
+    let p = c.table_row-place in
+    let x = s.0.1.1 ∙ l.invariant.0 in
+    let t = taken _ _ _ _ _ s.0.1.0 x l.invariant.1 in (
+      s.0.0 ∙ l.invariant.0,
+      omega (arith, s.2, t.1),
+      p.auto.table ∙ l.invariant.2,
+      λ bs r. again table_part table_all 4 table_parts bs _ _ _ _ _ _ (l.invariant.3 bs r) _ _ s.0.1.0 x _ _ _ _ _ (λ b en el. refl)
+          p.ensures.0 (omega (arith, s.2)) (omega (arith, c.requires.room, s.1, t.0, l.invariant.2)) p.ensures.1 (omega (arith, s.1)),
     )
 
 pub returns : goal.returns
 returns c =
     λ bs r.
-    let a = c.args in
-    let g = c.loop-k.invariant.1 bs r in (
-      last table_part table_all 4 table_parts bs a.rows.now a.table.now 0 g c.loop-k-test.false,
-      sum table_part table_all 4 table_parts bs a.rows.now a.table.now 0 g c.loop-k-test.false,
-    )
+    let l = c.loop-k in
+    let s = c.in-None.ensures.steps in
+    last table_part table_all 4 table_parts bs _ _ _ _ _ _ (l.invariant.3 bs r) (omega (arith, s.0.1.0, l.invariant.0))

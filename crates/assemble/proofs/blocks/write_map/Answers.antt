@@ -12,5 +12,5 @@ returns c =
     λ bs r.
     let a = c.args in
     let p = c.requires.room in
-    pmap_whole a.out.now c.head.new.out c.write_two.new.s c.map_rows.new.out a.at (length a.rows.now / 8) a.root bs p.0 p.1 (omega (arith, ap length r.is, length_rows_of bs))
-    c.head.ensures c.write_two.ensures (c.map_rows.ensures bs r)
+    pmap_whole a.out.now c.head.new.out c.write_words.new.s c.map_rows.new.out a.at (length a.rows.now / 8) a.root bs p.0 p.1 (omega (arith, ap length r.is, length_rows_of bs))
+    c.head.ensures c.write_words.ensures (c.map_rows.ensures bs r)

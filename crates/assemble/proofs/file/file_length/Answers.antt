@@ -12,8 +12,8 @@ returns-clause-counts c =
     let a = c.args.area.now in
     let w = a.bytes.now in
     let d = c.data_length-data in
-    let n = c.definitions_length-structs in
+    let n = c.length-structs in
     let r = lengths_area w _ a.progress.blocks c.rows.ensures (omega (arith, a.safe)) in
-    counted a.safe H pointer d.result n.result c.definitions_length.result
+    counted a.safe H pointer d.result n.result c.length.result
     (d.ensures.0 ∙ r.1 ∙ ap (lengths_in w 0) H.rep.blocks ∙ lengths_total w 0 s.core.blocks H.rep.small (rows_stand a.safe H))
-    (rw c.used.ensures.names at n.ensures.0) (rw c.used-2.ensures.names at c.definitions_length.ensures.0)
+    (rw (c.of.ensures.kind, c.of.ensures.names.names) at n.ensures.0) (rw (c.of-2.ensures.kind, c.of-2.ensures.names.names) at c.length.ensures.0)
