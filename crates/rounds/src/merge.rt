@@ -80,7 +80,7 @@ impl Task<'_> {
         ensures { Takes self.now.sheet.now self.now.schema.now self.now.size self.now.room opening count result work.new }
     {
         let mut area = opening.begin(work);
-        let outcome = self.run(&mut area, opening.place, opening.name);
+        let outcome = self.run(&mut area, &opening);
         let job = Job {
             opening,
             outcome,

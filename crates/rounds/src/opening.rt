@@ -4,7 +4,7 @@ ghost use Rattle.numbers.specs.Refusal.{answer_of};
 ghost use Rattle.rounds.specs.Merge.{Opens, roomed_at, rooted_at, schemed_at, opening_of};
 
 use crate::Task;
-use area::Round;
+use area::{NAMES, Round};
 use definitions::lookup::find;
 use numbers::refusal::Refusal;
 use schema::check::check_schema;
@@ -24,10 +24,10 @@ pub struct Opening {
 fn roomed(work: usize, entries: usize, place: usize, name: u32) -> Result<Opening, Refusal>
     ensures { answer_of result ≡ roomed_at work entries place name }
 {
-    if work < 65536 || (work - 65536) / 8 < entries {
+    if work < NAMES || (work - NAMES) / 8 < entries {
         return Err(Refusal::WorkLength);
     }
-    let cap = ((work - 65536 - 8 * entries) / 4).min(4194304);
+    let cap = ((work - NAMES - 8 * entries) / 4).min(4194304);
     let round = Round {
         entries,
         cap,

@@ -7,7 +7,7 @@ ghost use Rattle.rounds.specs.Run.{beginning_of, Rooted, Roomy, Runs};
 
 use crate::opening::Opening;
 use crate::{Job, Task};
-use area::{Area, Progress};
+use area::{Area, NAMES, Progress};
 use choices::source::Source;
 use members::def_at;
 use numbers::refusal::Refusal;
@@ -23,7 +23,7 @@ impl Opening {
         ensures progress { result.progress ≡ beginning_of self.now.round }
     {
         let round = self.round;
-        let end = 65536 + 8 * round.entries;
+        let end = NAMES + 8 * round.entries;
         let progress = Progress {
             blocks: 0,
             rows: 0,
@@ -62,19 +62,19 @@ impl Job {
 
 impl Task<'_> {
     // Runs the layout from its beginning to its end: the root's pointer; or refusal 8, 9, 10 or 11.
-    pub fn run(&self, area: &mut Area<'_>, place: usize, name: u32) -> Result<u32, Refusal>
+    pub fn run(&self, area: &mut Area<'_>, opening: &Opening) -> Result<u32, Refusal>
         requires begun { area.old.progress ≡ beginning_of area.old.round }
         requires clear { area.old.bytes.now ≡ zeros (size area.old) }
-        requires rooted { Rooted self.now.schema.now area.old.round place name }
-        ensures { Step (λ R n p w. Runs self.now.sheet.now self.now.schema.now R n name) area.old result area.new }
+        requires rooted { Rooted self.now.schema.now area.old.round opening.now.place opening.now.name }
+        ensures { Step (λ R n p w. Runs self.now.sheet.now self.now.schema.now R n opening.now.name) area.old result area.new }
     {
-        let root = def_at(self.schema, name, place);
+        let root = def_at(self.schema, opening.name, opening.place);
         let writer = Writer {
             sheet: self.sheet,
             schema: self.schema,
             left: 32,
         };
         writer.write_struct(area, root, Source::Row(0))?;
-        area.lay(name, root.size as usize)
+        area.lay(opening.name, root.size as usize)
     }
 }

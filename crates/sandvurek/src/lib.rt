@@ -51,6 +51,7 @@ impl From<Result<Built, Refusal>> for Outcome {
 }
 
 // Builds a pack from a sheet and a schema file. The file goes to the front of the output, the remarks to the front of their list.
+// Five slices, as a caller in C lends them.
 #[unsafe(no_mangle)]
 pub extern "C" fn sandvurek_build(
     sheet: &[u8],
@@ -178,7 +179,7 @@ pub extern "C" fn sandvurek_structure(file: &[u8], name: u32) -> Definition
     find_definition(file, Kind::Structure, name).into()
 }
 
-// The enum of a name; the first counts.
+// The enum of a name; the first counts. Two functions of one shape, as each is an exported name of C.
 #[unsafe(no_mangle)]
 pub extern "C" fn sandvurek_enum(file: &[u8], name: u32) -> Definition
     ensures value { result ≡ enum_of file.now name }

@@ -1,5 +1,5 @@
-// The functions of `sandvurek` for C and Rust: each calls the library's, and states its clauses again. A slice passes as
-// pointer, then length; every call takes any bytes.
+// The functions of `sandvurek` for C and Rust: each calls the library's, and states its clauses again. The seven are of one
+// shape, since each is an exported name of C. A slice passes as pointer, then length; every call takes any bytes.
 #![tactic(auto)]
 
 ghost use Rattle.std.specs.Prelude.{◌≡◌, length};

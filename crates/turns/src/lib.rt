@@ -1,10 +1,12 @@
 // The driver's steps: the first round; a turn, which makes a record of the record that it is given; the end.
+// `task, work` travel through them: `Task` is another crate's, so these are no methods of it; the work area is lent.
 #![tactic(auto)]
 
 ghost use Rattle.std.specs.Prelude.{length};
 ghost use Rattle.rounds.specs.Merge.{Fit};
 ghost use Rattle.turns.specs.Turns.{Passes, Ready, Steps, Begins, Reached, Ends};
 
+use area::REMARKS;
 use area::notes::{row_at, same};
 use assemble::file::{put_file, wipe};
 use layout::Remark;
@@ -65,7 +67,7 @@ pub fn step(task: &Task<'_>, work: &mut [u8], stage: Stage, old: Remark) -> Turn
     ensures { Steps task.now.sheet.now task.now.schema.now task.now.size task.now.room stage old work.old result work.new }
 {
     let room = task.room;
-    let row = row_at(work, 32768 + 16 * stage.row);
+    let row = row_at(work, REMARKS + 16 * stage.row);
     if stage.base <= stage.at {
         let put = Stage {
             count: stage.count + 1,
