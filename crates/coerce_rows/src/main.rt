@@ -3,7 +3,7 @@
 // line says it of published hash values.
 #![tactic(auto)]
 
-ghost use Rattle.std.specs.Prelude.{◌<◌, ◌^◌, ◌≤◌};
+ghost use Rattle.std.specs.Prelude.{◌<◌, ◌^◌, ◌≤◌, length, IfSome};
 
 use coerce::misfit::Misfit;
 use coerce::vector::vec_of;
@@ -14,9 +14,8 @@ use names::enums::enum_value;
 use names::flags::flags_bits;
 use names::hashes::hash_of;
 use numbers::words::{part_from, part_to, read};
-use std::alloc::Global;
 use std::io;
-use std::io::{ErrorKind, Read};
+use std::io::Read;
 use value::{Row, read_row};
 
 // A row, the sheet that it stands in, and its recorded bytes.
@@ -71,7 +70,7 @@ impl Value for [u32; 4] {
     }
 }
 
-// Whether a recorded answer is ours.
+// Whether a recorded answer is ours. The codes are 0, 1 and 11, as recorded.
 fn is<T: Value>(answer: &[u8], ours: Result<T, Misfit>) -> bool {
     let code = read::<u32>(answer, 0);
     match ours {
@@ -88,36 +87,43 @@ fn is_text(answer: &[u8], there: bool, text: &[u8]) -> bool {
         && read::<u32>(answer, 8) == rage_joaat(text)
 }
 
-// The rows, each behind the other.
-fn rows_of(alloc: Global, all: &[u8]) -> io::Result<Vec<Recorded<'_>>> {
-    let mut rows = Vec::new(alloc);
-    let mut rest = all;
-    // No `for`: each row says where the next one stands.
-    while !rest.is_empty() {
-        let len = read::<u32>(rest, 0) as usize;
-        if len < 120 || rest.len() < len {
-            return Err(ErrorKind::InvalidData.into());
-        }
-        let (row, behind) = rest.split_at(len);
-        rows.push(Recorded::new(row))?;
-        rest = behind;
+// The first row, and what lies behind it; None at the end, and at a row that is shorter than its answers. vectors has this and `read_all` too.
+fn next_row(rest: &[u8]) -> Option<(&[u8], &[u8])>
+    ensures { IfSome result (λ both. length both.1.now < length rest.now) }
+{
+    let len = read::<u32>(rest, 0) as usize;
+    if rest.is_empty() || len < 120 {
+        return None;
     }
-    Ok(rows)
+    Some((part_to(rest, len), part_from(rest, len)))
 }
 
+// The line of one coercion: how many of the rows have its answer; none, where a row is shorter than its answers.
 fn line<F: Fn(&Recorded<'_>) -> bool>(
     rt: &impl Print,
     name: &str,
-    rows: &[Recorded<'_>],
+    rows: &[u8],
     agrees: F,
 ) -> io::Result<()>
     requires { F.IsAlwaysCallable agrees }
 {
-    let good = rows.iter().filter(|row| agrees(row)).count();
-    println!(rt; "{name}: {good} of {} rows agree", rows.len())
+    let mut rest = rows;
+    let mut count: usize = 0;
+    let mut good: usize = 0;
+    // No `for`: each row says where the next one stands.
+    while let Some((row, behind)) = next_row(rest) {
+        count += 1;
+        if agrees(&Recorded::new(row)) {
+            good += 1;
+        }
+        rest = behind;
+    }
+    let good = if rest.is_empty() { good } else { 0 };
+    println!(rt; "{name}: {good} of {count} rows agree")
 }
 
-fn lines(rt: &impl Print, entries: Entries<'_>, rows: &[Recorded<'_>]) -> io::Result<()> {
+// The lines of the numbers.
+fn number_lines(rt: &impl Print, rows: &[u8]) -> io::Result<()> {
     line(
         rt,
         "int_of",
@@ -147,7 +153,11 @@ fn lines(rt: &impl Print, entries: Entries<'_>, rows: &[Recorded<'_>]) -> io::Re
         "vec_of 4",
         rows,
         |r| is(r.answer(64), vec_of(r.sheet, r.row, 4)),
-    )?;
+    )
+}
+
+// The lines of the texts, hashes and enums.
+fn word_lines(rt: &impl Print, entries: Entries<'_>, rows: &[u8]) -> io::Result<()> {
     line(rt, "str_of", rows, |r| {
         is_text(r.answer(84), has_str(r.row), str_of(r.sheet, r.row))
     })?;
@@ -180,19 +190,37 @@ fn published_line(rt: &impl Print) -> io::Result<()> {
     )
 }
 
-fn main(rt: HostRuntime) -> io::Result<()> {
-    let mut input = Vec::new(rt.alloc());
-    rt.reader().read_to_end(&mut input)?;
-    let count = read::<u32>(&input, 0) as usize;
-    if 1000 <= count {
-        return Err(ErrorKind::InvalidData.into());
+// Reads until the slice is full or the input ends; how many bytes there were.
+// Not a `for`: only a read says how much it gave.
+fn read_all(rt: &impl Input, space: &mut [u8]) -> io::Result<usize> {
+    let mut reader = rt.reader();
+    let mut n = 0;
+    while n < space.len() {
+        let more = reader.read(&mut space[n..])?;
+        if more == 0 {
+            break;
+        }
+        n += more;
     }
-    let entries = Entries {
-        schema: &input,
-        at: 4,
-        count,
-    };
-    let rows = rows_of(rt.alloc(), part_from(&input, 4 + 8 * count))?;
-    lines(&rt, entries, &rows)?;
+    Ok(n)
+}
+
+// An array and no Vec, as in vectors.
+fn main(rt: HostRuntime) -> io::Result<()> {
+    let mut space = [0u8; 65536];
+    let n = read_all(&rt, &mut space)?;
+    let input = part_to(&space, n);
+    let count = read::<u32>(input, 0) as usize;
+    // With more entries there are no lines.
+    if count < 1000 {
+        let entries = Entries {
+            schema: input,
+            at: 4,
+            count,
+        };
+        let rows = part_from(input, 4 + 8 * count);
+        number_lines(&rt, rows)?;
+        word_lines(&rt, entries, rows)?;
+    }
     published_line(&rt)
 }

@@ -1,9 +1,8 @@
 -- The comparisons: bytes that are all the same, records that are as they must be. Assumes nothing.
-use mathlib.Core.Path.{◌≡◌, refl, sym, ap, subst, ◌∙◌}
-use mathlib.Core.Bool.{Bool, true, false, not, ◌&&◌}
+use mathlib.Core.Path.{◌≡◌, refl, subst, ◌∙◌}
+use mathlib.Core.Bool.{Bool, true, false, ◌&&◌}
 use mathlib.Core.List.{List, [], ◌∷◌}
-use Prim.Native.Nat.{ℕ, zero, suc, ◌+◌, ◌<◌}
-use native.Mathlib.Numerals.{add-one}
+use Prim.Native.Nat.{ℕ, zero, suc, ◌<◌}
 use native.Mathlib.Omega.{arith}
 use lib.Dec.{eqb}
 use lib.ListN.{length, get_or}
@@ -35,31 +34,30 @@ pub all_is : (b : ℕ) (s : Bytes) (r : Bool) → (r ≡ true → (k : ℕ) → 
 all_is b s true y n = all_yes b s (y refl)
 all_is b s false y n = let p = n refl in all_no b s p.0 p.1 p.2
 
--- what `!=` says of records
-not_not : (t : Bool) → t ≡ not (not t)
-not_not true = refl
-not_not false = refl
+-- what `==` says of records
+abbrev pub alike : Remark → Remark → Bool
+alike q r = eqb q.kind r.kind && (eqb q.structure r.structure && (eqb q.member r.member && eqb q.detail r.detail))
 
 all_four : (a b c d : Bool) → ((a && b) && c) && d ≡ a && (b && (c && d))
 all_four true true c d = refl
 all_four true false c d = refl
 all_four false b c d = refl
 
-pub same_by : (q r : Remark) (t : Bool) → t ≡ not (eqb q.kind r.kind && (eqb q.structure r.structure && (eqb q.member r.member && eqb q.detail r.detail))) → same_remark q r ≡ not t
-same_by q r t e =
-    all_four (eqb q.kind r.kind) (eqb q.structure r.structure) (eqb q.member r.member) (eqb q.detail r.detail)
-    ∙ not_not (eqb q.kind r.kind && (eqb q.structure r.structure && (eqb q.member r.member && eqb q.detail r.detail))) ∙ ap not (sym e)
+same_by : (q r : Remark) → same_remark q r ≡ alike q r
+same_by q r = all_four (eqb q.kind r.kind) (eqb q.structure r.structure) (eqb q.member r.member) (eqb q.detail r.detail)
 
--- a loop that has passed i records
+-- the first k records, from what stands at each place
 module _ (s : Bytes) (count n : ℕ) (l : List Remark) where
-  pub records_turn : (i : ℕ) → records_are s count n l i ≡ true → same_remark (get_or l i zero_remark) (wanted_at s count n i) ≡ true → records_are s count n l (i + 1) ≡ true
+  records_yes : (k : ℕ) → ((i : ℕ) → i < k → alike (get_or l i zero_remark) (wanted_at s count n i) ≡ true) → true ≡ records_are s count n l k
   unfolding records_are
-  records_turn i p q = ap (records_are s count n l) (add-one i) ∙ rw (p, q)
+  records_yes zero every = refl
+  records_yes (suc k) every =
+      rw (← records_yes k (λ i h. every i (omega (arith, h))), same_by (get_or l k zero_remark) (wanted_at s count n k), every k (omega arith)) refl
 
-  pub records_differ : (i k : ℕ) → i < k → same_remark (get_or l i zero_remark) (wanted_at s count n i) ≡ false → false ≡ records_are s count n l k
+  records_no : (i k : ℕ) → i < k → alike (get_or l i zero_remark) (wanted_at s count n i) ≡ false → false ≡ records_are s count n l k
   unfolding records_are
-  records_differ i zero h e = absurd (omega (arith, h))
-  records_differ i (suc k) h e = go (eqb i k) refl (λ f. records_differ i k f e)
+  records_no i zero h e = absurd (omega (arith, h))
+  records_no i (suc k) h e = go (eqb i k) refl (λ f. records_no i k f e)
     where
       and_false : (t : Bool) → false ≡ t && false
       and_false true = refl
@@ -68,6 +66,12 @@ module _ (s : Bytes) (count n : ℕ) (l : List Remark) where
       go : (t : Bool) → eqb i k ≡ t → (i < k → false ≡ records_are s count n l k) → false ≡ records_are s count n l (suc k)
       go true q before =
           let f : same_remark (get_or l k zero_remark) (wanted_at s count n k) ≡ false =
-          subst (λ (j : ℕ). same_remark (get_or l j zero_remark) (wanted_at s count n j) ≡ false) (eqb-true i k q) e in
+          same_by (get_or l k zero_remark) (wanted_at s count n k) ∙ subst (λ (j : ℕ). alike (get_or l j zero_remark) (wanted_at s count n j) ≡ false) (eqb-true i k q) e in
           rw f (and_false (records_are s count n l k))
       go false q before = rw (← before (omega (arith, h, eqb-false i k q))) refl
+
+  -- whether all 64 records are as they must be
+  pub records_is : (r : Bool) → (r ≡ true → (k : ℕ) → k < 64 → alike (get_or l k zero_remark) (wanted_at s count n k) ≡ true)
+      → (r ≡ false → (k : ℕ) × (k < 64) × (alike (get_or l k zero_remark) (wanted_at s count n k) ≡ false)) → r ≡ records_are s count n l 64
+  records_is true y n = records_yes 64 (y refl)
+  records_is false y n = let p = n refl in records_no p.0 64 p.1 p.2

@@ -5,10 +5,13 @@ ghost use Rattle.vectors.specs.Judge.{record_of, noise, all_are, wanted_at, reco
 use area::notes::row_at;
 use layout::Remark;
 use numbers::words::{part_from, part_to, read, same};
-use pso::parse::Pso;
+use sandvurek::{Outcome, Reading};
 
 // The byte that fills every area before a case.
-pub const NOISE: u8 = 165;
+pub const NOISE: u8 = 0xA5;
+
+// Four of them, as every field of a record is then.
+const NOISES: u32 = 0xA5A5_A5A5;
 
 fn record(n: u32) -> Remark
     ensures { result ≡ record_of n }
@@ -24,7 +27,7 @@ fn record(n: u32) -> Remark
 pub fn noises() -> [Remark; 64]
     ensures { result ≡ replicate 64 noise }
 {
-    let r = record(2779096485);
+    let r = record(NOISES);
     [r; 64]
 }
 
@@ -42,8 +45,10 @@ fn wanted(s: &[u8], count: usize, n: usize, i: usize) -> Remark
 {
     if i < count {
         row_at(s, 16 * i)
+    } else if i < n {
+        record(0)
     } else {
-        if i < n { record(0) } else { record(2779096485) }
+        record(NOISES)
     }
 }
 
@@ -51,43 +56,42 @@ fn wanted(s: &[u8], count: usize, n: usize, i: usize) -> Remark
 fn records(s: &[u8], count: usize, n: usize, list: [Remark; 64]) -> bool
     ensures { result ≡ records_are s.now count n list 64 }
 {
-    for (i, r) in list.iter().enumerate() {
-        if *r != wanted(s, count, n, i) {
-            return false;
-        }
-    }
-    true
+    list.iter()
+        .enumerate()
+        .all(|(i, r)| *r == wanted(s, count, n, i))
 }
 
 // Whether a case has the recorded answer, and left its areas as it must.
+#[tactic(auto, unfolding(crate::specs::Judge::agrees_with))]
 pub fn agrees(
     row: &[u8],
     work: &[u8],
     out: &[u8],
     n: usize,
-    code: u32,
-    len: usize,
-    count: usize,
+    outcome: Outcome,
     list: [Remark; 64],
 ) -> bool
-    ensures { result ≡ agrees_with row.now work.now out.now n code len count list }
+    ensures { result ≡ agrees_with row.now work.now out.now n outcome.code outcome.length outcome.remarks list }
 {
+    let len = outcome.length;
     let at = 40 + (read::<u32>(row, 8) as usize) + (read::<u32>(row, 12) as usize);
     let size = read::<u32>(row, 32) as usize;
-    let c = (code == read::<u32>(row, 28))
-        & (len == size)
-        & (count == read::<u32>(row, 36) as usize);
-    let f = same(part_to(out, len), part_to(part_from(row, at), size));
-    let a = all_are(part_from(out, len), NOISE) & all_are(work, 0);
-    c & f & a & records(part_from(row, at + size), count, n, list)
+    outcome.code == read::<u32>(row, 28)
+        && len == size
+        && outcome.remarks == read::<u32>(row, 36) as usize
+        && same(part_to(out, len), part_to(part_from(row, at), size))
+        && all_are(part_from(out, len), NOISE)
+        && all_are(work, 0)
+        && records(part_from(row, at + size), outcome.remarks, n, list)
 }
 
 // Whether a file has the recorded reading.
-pub fn is_reading(row: &[u8], code: u32, pso: Pso) -> bool
-    ensures { result ≡ reads_as row.now code pso.root pso.place pso.len pso.blocks }
+pub fn is_reading(row: &[u8], reading: Reading) -> bool
+    ensures { result ≡ reads_as row.now reading.code reading.root reading.data_at reading.data_length reading.blocks }
 {
-    let a = (code == read::<u32>(row, 12)) & (pso.root == read::<u32>(row, 16));
-    let b = (pso.place == read::<u32>(row, 20) as usize)
-        & (pso.len == read::<u32>(row, 24) as usize);
-    a & b & (pso.blocks == read::<u32>(row, 28) as usize)
+    reading.code == read::<u32>(row, 12)
+        && reading.root == read::<u32>(row, 16)
+        && reading.data_at == read::<u32>(row, 20) as usize
+        && reading.data_length == read::<u32>(row, 24) as usize
+        && reading.blocks == read::<u32>(row, 28) as usize
 }

@@ -4,34 +4,30 @@
 // to the last byte: file, remarks, the rest of the lent areas.
 #![tactic(auto)]
 
-ghost use Rattle.std.specs.Prelude.{◌≡◌, ◌≤◌, ◌<◌, length, take};
+ghost use Rattle.std.specs.Prelude.{◌≡◌, ◌≤◌, ◌<◌, length, take, IfSome};
 ghost use Rattle.layout.specs.Build.{build_pso};
-ghost use Rattle.turns.specs.Answers.{leaves};
+ghost use Rattle.sandvurek.specs.Exports.{BuildIs};
 
 use judge::{NOISE, agrees, is_reading};
 use layout::Remark;
-use numbers::refusal::Refusal;
 use numbers::words::{part_from, part_to, read};
-use pso::parse::{Pso, parse_pso};
-use pso_write::build_pso;
-use std::alloc::Global;
+use sandvurek::{Outcome, Reading, sandvurek_build, sandvurek_read};
 use std::io;
 use std::io::Read;
-use turns::Built;
 
 mod judge;
 
 // The answer, and all records behind it.
 #[derive(Clone, Copy)]
 pub struct Kept {
-    pub built: Result<Built, Refusal>,
+    pub outcome: Outcome,
     pub list: [Remark; 64],
 }
 
-fn keep(built: Result<Built, Refusal>, list: [Remark; 64]) -> Kept
-    ensures { (result.built ≡ built) × (result.list ≡ list) }
+fn keep(outcome: Outcome, list: [Remark; 64]) -> Kept
+    ensures { (result.outcome ≡ outcome) × (result.list ≡ list) }
 {
-    Kept { built, list }
+    Kept { outcome, list }
 }
 
 // Builds with n of the records lent.
@@ -44,104 +40,64 @@ fn pack(
     mut list: [Remark; 64],
 ) -> Kept
     requires { n ≤ 64 }
-    ensures { leaves result.built out.new (take n result.list) work.new
-        ≡ build_pso sheet.now schema.now (length work.old) out.old n }
+    ensures { BuildIs (build_pso sheet.now schema.now (length work.old) out.old n)
+        result.outcome out.new (take n result.list) work.new }
 {
-    let b = build_pso(sheet, schema, work, out, &mut list[..n]);
-    keep(b, list)
+    let outcome = sandvurek_build(sheet, schema, work, out, &mut list[..n]);
+    keep(outcome, list)
 }
 
-fn say(rt: &impl Print, what: &str, n: u64) -> io::Result<()> {
-    print!(rt; "{what}{n}")
-}
-
-fn end(rt: &impl Print, same: bool) -> io::Result<()> {
-    if same {
-        println!(rt; ", same")
-    } else {
-        println!(rt; ", different")
-    }
-}
-
-// The line of a case that was built.
-fn built_line(rt: &impl Print, code: u32, len: usize, count: usize, same: bool) -> io::Result<()> {
-    say(rt, ": code ", code as u64)?;
-    say(rt, ", ", len as u64)?;
-    say(rt, " bytes, ", count as u64)?;
-    print!(rt; " remarks")?;
-    end(rt, same)
-}
-
-// The line of a file that was read.
-fn read_line(rt: &impl Print, code: u32, pso: Pso, same: bool) -> io::Result<()> {
-    say(rt, ": code ", code as u64)?;
-    say(rt, ", root ", pso.root as u64)?;
-    say(rt, ", ", pso.len as u64)?;
-    say(rt, " bytes at ", pso.place as u64)?;
-    say(rt, ", ", pso.blocks as u64)?;
-    print!(rt; " blocks")?;
-    end(rt, same)
-}
-
-fn answer(
-    rt: &impl Print,
-    row: &[u8],
-    work: &[u8],
-    out: &[u8],
-    n: usize,
-    built: Result<Built, Refusal>,
-    list: [Remark; 64],
-) -> io::Result<()> {
-    match built {
-        Ok(Built { length, remarks }) => {
-            let same = agrees(row, work, out, n, 0, length, remarks, list);
-            built_line(rt, 0, length, remarks, same)
-        }
-        Err(refusal) => {
-            let code = u32::from(refusal);
-            let same = agrees(row, work, out, n, code, 0, 0, list);
-            built_line(rt, code, 0, 0, same)
-        }
-    }
+// Whether a case is the recorded one, as a word.
+fn word(same: bool) -> &'static str {
+    if same { "same" } else { "different" }
 }
 
 // A case for the packer. All areas are full of noise before.
-fn build_case(rt: &impl Print, row: &[u8], work: &mut [u8], out: &mut [u8]) -> io::Result<()> {
+fn build_case(
+    rt: &impl Print,
+    number: usize,
+    row: &[u8],
+    work: &mut [u8],
+    out: &mut [u8],
+) -> io::Result<()> {
     let a = read::<u32>(row, 8) as usize;
     let b = read::<u32>(row, 12) as usize;
     let n = read::<u32>(row, 24) as usize;
     if 64 < n {
-        return Ok(());
+        return print!(rt; "case {number}");
     }
     let sheet = part_to(part_from(row, 40), a);
     let schema = part_to(part_from(row, 40 + a), b);
     work.fill(NOISE);
     out.fill(NOISE);
-    let k = pack(sheet, schema, work, out, n, judge::noises());
-    let built = k.built;
-    let list = k.list;
-    answer(rt, row, work, out, n, built, list)
+    let Kept { outcome, list } = pack(sheet, schema, work, out, n, judge::noises());
+    let word = word(agrees(row, work, out, n, outcome, list));
+    let Outcome {
+        code,
+        length,
+        remarks,
+    } = outcome;
+    println!(rt; "case {number}: code {code}, {length} bytes, {remarks} remarks, {word}")
 }
 
-// A case for the reader; of what is refused all numbers but the code are 0.
-fn read_case(rt: &impl Print, row: &[u8]) -> io::Result<()> {
+// A case for the reader.
+fn read_case(rt: &impl Print, number: usize, row: &[u8]) -> io::Result<()> {
     let file = part_to(part_from(row, 40), read::<u32>(row, 8) as usize);
-    match parse_pso(file) {
-        Ok(pso) => read_line(rt, 0, pso, is_reading(row, 0, pso)),
-        Err(refusal) => {
-            let code = u32::from(refusal);
-            let pso = Pso {
-                root: 0,
-                place: 0,
-                len: 0,
-                blocks: 0,
-            };
-            read_line(rt, code, pso, is_reading(row, code, pso))
-        }
-    }
+    let reading = sandvurek_read(file);
+    let word = word(is_reading(row, reading));
+    let Reading {
+        code,
+        root,
+        data_at,
+        data_length,
+        blocks,
+    } = reading;
+    println!(rt;
+        "case {number}: code {code}, root {root}, {data_length} bytes at {data_at}, {blocks} blocks, {word}"
+    )
 }
 
-// One case; no answer where it has no room here.
+// One case; no answer where it has no room here. It goes to one of the two above with what is printed to and its number.
 fn one(
     rt: &impl Print,
     number: usize,
@@ -149,43 +105,69 @@ fn one(
     work: &mut [u8],
     out: &mut [u8],
 ) -> io::Result<()> {
-    say(rt, "case ", number as u64)?;
+    // The kind of a case is a number in the recorded form: 1 is a file for the reader.
     if read::<u32>(row, 4) == 1 {
-        return read_case(rt, row);
+        return read_case(rt, number, row);
     }
     let w = read::<u32>(row, 16) as usize;
     let o = read::<u32>(row, 20) as usize;
     if work.len() < w || out.len() < o {
-        return Ok(());
+        return print!(rt; "case {number}");
     }
-    build_case(rt, row, &mut work[..w], &mut out[..o])
+    build_case(rt, number, row, &mut work[..w], &mut out[..o])
 }
 
-// The rows of the cases, each behind the other, up to one that is too short.
-fn rows_of(alloc: Global, all: &[u8]) -> io::Result<Vec<&[u8]>> {
-    let mut rows = Vec::new(alloc);
+// The row of the first case, and what lies behind it; None at the end, and at a row that is too short.
+fn next_row(rest: &[u8]) -> Option<(&[u8], &[u8])>
+    ensures { IfSome result (λ both. length both.1.now < length rest.now) }
+{
+    let len = read::<u32>(rest, 0) as usize;
+    if rest.is_empty() || len < 40 {
+        return None;
+    }
+    Some((part_to(rest, len), part_from(rest, len)))
+}
+
+// The cases, each behind the other. The areas come as arrays: `main` knows what they hold, and a proof of cutting slices there would go through
+// all of it.
+fn cases(
+    rt: &impl Print,
+    all: &[u8],
+    work: &mut [u8; 4325376],
+    out: &mut [u8; 2048],
+) -> io::Result<()> {
     let mut rest = all;
+    let mut number = 0;
     // No `for`: each row says where the next one stands.
-    while !rest.is_empty() {
-        let len = read::<u32>(rest, 0) as usize;
-        if len < 40 {
-            break;
-        }
-        rows.push(part_to(rest, len))?;
-        rest = part_from(rest, len);
-    }
-    Ok(rows)
-}
-
-// The work area has 4 MB, for refusal 10.
-fn main(rt: HostRuntime) -> io::Result<()> {
-    let mut all = Vec::new(rt.alloc());
-    rt.reader().read_to_end(&mut all)?;
-    let rows = rows_of(rt.alloc(), &all)?;
-    let mut work = vec![in rt.alloc(); 0u8; 4325376]?;
-    let mut out = vec![in rt.alloc(); 0u8; 2048]?;
-    for (number, row) in rows.iter().enumerate() {
-        one(&rt, number, row, &mut work, &mut out)?;
+    while let Some((row, behind)) = next_row(rest) {
+        one(rt, number, row, work, out)?;
+        number += 1;
+        rest = behind;
     }
     Ok(())
+}
+
+// Reads until the slice is full or the input ends; how many bytes there were.
+// Not a `for`: only a read says how much it gave. coerce_rows has this and `next_row` too: a crate for both would be no plainer.
+fn read_all(rt: &impl Input, space: &mut [u8]) -> io::Result<usize> {
+    let mut reader = rt.reader();
+    let mut n = 0;
+    while n < space.len() {
+        let more = reader.read(&mut space[n..])?;
+        if more == 0 {
+            break;
+        }
+        n += more;
+    }
+    Ok(n)
+}
+
+// The work area has 4 MB, for refusal 10. Arrays and no Vec, here and in coerce_rows: a Vec rests on the heap's functions, and nothing more is
+// assumed for a program that checks the library.
+fn main(rt: HostRuntime) -> io::Result<()> {
+    let mut space = [0u8; 327680];
+    let mut work = [0u8; 4325376];
+    let mut out = [0u8; 2048];
+    let n = read_all(&rt, &mut space)?;
+    cases(&rt, part_to(&space, n), &mut work, &mut out)
 }
