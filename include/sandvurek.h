@@ -11,8 +11,8 @@
  * writes to what a call was passed before it returns.
  *
  * Stack: a thread with a stack of 131,072 bytes can make every call, whatever the input. The deepest, with structures
- * in arrays down to depth 32, takes about 100,000 of them, measured on x86-64 Linux; the rest is margin, and for what
- * the thread itself needs. The functions other than sandvurek_build take 200 at most. */
+ * in arrays down to depth 32, takes about 35,000 of them, measured on x86-64 Linux; the rest is margin, and for what
+ * the thread itself needs. The functions other than sandvurek_build take some 200. */
 #ifndef SANDVUREK_H
 #define SANDVUREK_H
 

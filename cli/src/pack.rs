@@ -97,7 +97,8 @@ impl<'a> Packing<'a> {
         let target = files::target(&job.out)?;
         let most = Lent { work: self.work, out: LONGEST_PACK, records: self.o.records };
         let scene = self.followed(job, &sheet, most)?;
-        let built = scene::build(&sheet, &self.schema, scene.as_ref(), most).map_err(Stop::failed)?;
+        let built = scene::build(&sheet, &self.schema, scene.as_ref(), most)
+            .map_err(|why| Stop::failed(format!("{}: {why}", report.sheet)))?;
         if built.code != 0 {
             let message = self.refusal(job, built.code, &sheet, scene.as_ref());
             return Err(Failure { code: Some(built.code), message });

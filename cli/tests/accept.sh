@@ -189,8 +189,11 @@ run 1 accept "$e/case1/case1.pso" --sheet "$e/case1/case1.sheet" --schema "$hall
 has out "FAIL  schema against scene: building with the definitions of the schema file is refused: refusal 7"; passes "pointers followed"
 
 # A number that no pointer and no definition shows.
-hurt 231 1; wrong "rebuild from the pack's own schema: byte 231, in block 9, start 0x3, is 0x01"
-passes "pointers followed"; passes "schema against scene"
+rebuilt() { wrong "rebuild from the pack's own schema: $1"; passes "pointers followed"; passes "schema against scene"; has out "1 of 5 checks failed"; }
+hurt 231 1; rebuilt "byte 231, in block 9, start 0x3, is 0x01"
+hurt 8 1; rebuilt "byte 8, in PSIN, byte 8 of it, is 0x01, 0x00 is due"
+hurt 442 0; rebuilt "byte 442, in PMAP, byte 14 of it, is 0x00, 0x70 is due"
+hurt 20 101; rebuilt "byte 20, in block 1, start 0x4, is 0x41, 0x68 is due"; refused "rebuild from the schema file: byte 20, in block 1, start 0x4"
 
 # What could not be checked: exit status 2. A broken sheet or schema file says nothing about the pack.
 head -c 40 "$e/case1/case1.sheet" >"$t/short"
