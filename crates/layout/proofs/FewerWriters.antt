@@ -1,7 +1,7 @@
 -- .. in structures: by pointer, inline, in runs and in maps; so in the whole run (`s_root`).
 -- Assumes nothing.
 use Rattle.std.specs.Prelude.{Option, Some, None, is_some}
-use Prim.Native.Nat.{ℕ, zero, suc, ◌+◌, ◌-◌}
+use Prim.Native.Nat.{ℕ, zero, suc, ◌+◌}
 use mathlib.Core.Path.{◌≡◌, refl, ◌∙◌, ap}
 use mathlib.Core.Bool.{Bool, true, false, cond}
 use mathlib.Core.List.{List, [], ◌∷◌}
@@ -15,7 +15,7 @@ use Rattle.layout.specs.State.{Core, State, Env, M, bind, ret, if_m, opt_m, cont
 use Rattle.layout.specs.Kinds
 use Rattle.layout.specs.Members.{says, enum_member, flags_member, row_of}
 use Rattle.layout.specs.Runs.{Writer, run, stops, own_type, pointed, pointer_element, struct_element, struct_run, element_run}
-use Rattle.layout.specs.Write.{inline_member, pointed_member, struct_member, laid_run, pointed_array, embedded_array, array_of, array_member, pair_element, map_of, map_member, member, members, started, body, write, root}
+use Rattle.layout.specs.Write.{Writers, inline_member, pointed_member, struct_member, laid_run, pointed_array, embedded_array, array_of, array_member, pair_element, map_of, map_member, member, members, started, body, write, root}
 use Rattle.layout.proofs.Keep.{Keeps}
 use Rattle.layout.proofs.Writers.{k_struct_element, k_pair_element, k_members, k_write}
 use Rattle.layout.proofs.Follow.{back, Backs, Sim, Tells, s_ret, s_fail, s_bind, s_if, t_left, t_right, t_fail, t_if}
@@ -38,10 +38,17 @@ module _ (R : Fewer) where
   abbrev D : State → Type 0
   D = Inside U
 
-  module _ (w w' : Writer)
-      (hw : (n : ℕ) (i : StructDef) (fs : Fields) → E.defs.struct n ≡ Some i → L'.struct n ≡ Some i → Sim Rel D (w i fs) (w' i fs))
-      (hb : (n : ℕ) (i : StructDef) (fs : Fields) → E.defs.struct n ≡ Some i → Backs D (w i fs))
-      (ht : (n : ℕ) (i : StructDef) (fs : Fields) → E.defs.struct n ≡ Some i → contains n U.structs ≡ false → Tells D ⊥ (w i fs)) where
+  -- what is asked of the two writers: alike where both have the definition; going on where the first has it; and used where only the first has it
+  abbrev Simulating : Writer → Writer → Type 0
+  Simulating w w' = (n : ℕ) (i : StructDef) (fs : Fields) → E.defs.struct n ≡ Some i → L'.struct n ≡ Some i → Sim Rel D (w i fs) (w' i fs)
+
+  abbrev Backing : Writer → Type 0
+  Backing w = (n : ℕ) (i : StructDef) (fs : Fields) → E.defs.struct n ≡ Some i → Backs D (w i fs)
+
+  abbrev Telling : Writer → Type 0
+  Telling w = (n : ℕ) (i : StructDef) (fs : Fields) → E.defs.struct n ≡ Some i → contains n U.structs ≡ false → Tells D ⊥ (w i fs)
+
+  module _ (w w' : Writer) (hw : Simulating w w') (hb : Backing w) (ht : Telling w) where
     b_w : (s₀ : State) (n : ℕ) (i : StructDef) (fs : Fields) → E.defs.struct n ≡ Some i → Keeps (back D s₀) (w i fs)
     b_w s₀ n i fs q = hb n i fs q s₀
 
@@ -167,10 +174,6 @@ module _ (R : Fewer) where
     unfolding pointed_member
     s_pointed_member d e v buf = search (more, s_pointed)
 
-    s_struct_member : (d : StructDef) (e : Member) (v : Value) (buf : Bytes) → Sim Rel D (struct_member E w d e v buf) (struct_member E' w' d e v buf)
-    unfolding struct_member
-    s_struct_member d e v buf = search (more, s_inline_member, s_pointed_member)
-
     s_pointed_array : (d : StructDef) (e x : Member) (rs : List ℕ) (buf : Bytes) → Sim Rel D (pointed_array E w d e x rs buf) (pointed_array E' w' d e x rs buf)
     unfolding pointed_array if_m
     s_pointed_array d e x [] buf = s_need R d e 16 buf _ _ (s_ret Rel D buf)
@@ -220,15 +223,22 @@ module _ (R : Fewer) where
     unfolding map_member
     s_map_member d e v buf = search (more, s_map_of)
 
+  -- members, which lead to structures inline and afresh
+  module _ (w w' : Writers) (hi : Simulating w.inline w'.inline) (bi : Backing w.inline) (ti : Telling w.inline)
+      (ha : Simulating w.afresh w'.afresh) (ba : Backing w.afresh) (ta : Telling w.afresh) where
+    s_struct_member : (d : StructDef) (e : Member) (v : Value) (buf : Bytes) → Sim Rel D (struct_member E w d e v buf) (struct_member E' w' d e v buf)
+    unfolding struct_member
+    s_struct_member d e v buf = search (more, s_inline_member w.inline w'.inline hi bi ti, s_pointed_member w.afresh w'.afresh ha ba ta)
+
     s_member : (d : StructDef) (e : Member) (k : Kinds.Kind) (v : Value) (buf : Bytes) → Sim Rel D (member E w d e k v buf) (member E' w' d e k v buf)
     unfolding member enum_member flags_member
     s_member d e (Kinds.scalar s) v buf = s_scalar_member R s d e v buf
     s_member d e Kinds.text v buf = s_text_member R d e v buf
     s_member d e Kinds.structure v buf = s_struct_member d e v buf
-    s_member d e Kinds.array v buf = s_array_member d e v buf
+    s_member d e Kinds.array v buf = s_array_member w.afresh w'.afresh ha ba ta d e v buf
     s_member d e Kinds.enumeration v buf = s_named_member R _ (λ es. enum_below E.sheet es (row_of E v)) _ d e v buf
     s_member d e Kinds.flags v buf = s_named_member R _ (λ es. flags_below E.sheet es 64 (row_of E v)) _ d e v buf
-    s_member d e Kinds.map v buf = s_map_member d e v buf
+    s_member d e Kinds.map v buf = s_map_member w.afresh w'.afresh ha ba ta d e v buf
     s_member d e Kinds.other v buf = s_leaves R d d e e 13 13 e.type e.type buf
 
     s_members : (d : StructDef) (fs : Fields) (es : List Member) (buf : Bytes) → Sim Rel D (members E w d fs es buf) (members E' w' d fs es buf)
@@ -240,15 +250,14 @@ module _ (R : Fewer) where
     unfolding started
     s_started d fs = search (more, s_members)
 
-  t_started : (w : Writer) → ((n : ℕ) (i : StructDef) (fs : Fields) → E.defs.struct n ≡ Some i → Backs D (w i fs))
-      → (n : ℕ) (d : StructDef) (fs : Fields) → E.defs.struct n ≡ Some d → contains n U.structs ≡ false → Tells D ⊥ (started E w d fs)
+  t_started : (w : Writers) → Backing w.inline → Backing w.afresh → (n : ℕ) (d : StructDef) (fs : Fields) → E.defs.struct n ≡ Some d → contains n U.structs ≡ false → Tells D ⊥ (started E w d fs)
   unfolding started
-  t_started w hb n d fs q a =
+  t_started w bi ba n d fs q a =
       t_right D ⊥ _ _ λ z.
       t_left D ⊥ _ _ (t_use_struct R d.name (ap (λ k. contains k U.structs) (R.named.structs n d q) ∙ a))
-      (λ u s₀. k_members E (back D s₀) (prims R s₀) w (λ n i fs q. hb n i fs q s₀) d fs d.members _)
+      (λ u s₀. k_members E (back D s₀) (prims R s₀) w (λ n i fs q. bi n i fs q s₀) (λ n i fs q. ba n i fs q s₀) d fs d.members _)
 
-  -- by depth
+  -- by fuel
 
   b_write : (fuel left n : ℕ) (d : StructDef) (fs : Fields) → E.defs.struct n ≡ Some d → Backs D (write E fuel left d fs)
   b_write fuel left n d fs q s₀ = k_write E (back D s₀) (prims R s₀) fuel left d fs ((prims R s₀).found n d q).0
@@ -258,27 +267,22 @@ module _ (R : Fewer) where
   t_write zero left n d fs q a = t_fail D Bytes ⊥ 8
   t_write (suc fuel) left n d fs q a =
       t_if D ⊥ (eqb left 0) _ _ (t_fail D Bytes ⊥ 8)
-      (t_started (write E fuel (left - 1)) (b_write fuel (left - 1)) n d fs q a)
-
-  s_body : (rec rec' : ℕ → Writer) (left : ℕ) (d : StructDef) (fs : Fields) → Sim Rel D (started E (rec (left - 1)) d fs) (started E' (rec' (left - 1)) d fs)
-      → Sim Rel D (body E rec left d fs) (body E' rec' left d fs)
-  unfolding body
-  s_body rec rec' left d fs h = s_if Rel D _ _ _ _ _ (s_fail Rel D Bytes 8 _) h
+      (t_started _ (b_write fuel _) (b_write fuel _) n d fs q a)
 
   pub s_write : (fuel left n : ℕ) (d : StructDef) (fs : Fields) → E.defs.struct n ≡ Some d → L'.struct n ≡ Some d
       → Sim Rel D (write E fuel left d fs) (write E' fuel left d fs)
-  unfolding write
+  unfolding write body
   s_write zero left n d fs q q' = s_fail Rel D Bytes 8 _
   s_write (suc fuel) left n d fs q q' =
-      s_body (write E fuel) (write E' fuel) left d fs
-      (s_started (write E fuel (left - 1)) (write E' fuel (left - 1)) (s_write fuel (left - 1)) (b_write fuel (left - 1)) (t_write fuel (left - 1)) d fs)
+      s_if Rel D _ _ _ _ _ (s_fail Rel D Bytes 8 _)
+      (s_started _ _ (s_write fuel _) (b_write fuel _) (t_write fuel _) (s_write fuel _) (b_write fuel _) (t_write fuel _) d fs)
 
   -- the whole run
   pub s_root : (n : ℕ) (d : StructDef) (fs : Fields) → E.defs.struct n ≡ Some d → L'.struct n ≡ Some d → Sim Rel D (root E d fs) (root E' d fs)
   unfolding root
-  s_root n d fs q q' = s_bind Rel D _ _ _ _ (s_write 32 32 n d fs q q') (λ bs. s_add R d.name bs)
+  s_root n d fs q q' = s_bind Rel D _ _ _ _ (s_write 96 32 n d fs q q') (λ bs. s_add R d.name bs)
 
   -- the root's name is used by its end
   pub t_root : (n : ℕ) (d : StructDef) (fs : Fields) → E.defs.struct n ≡ Some d → contains n U.structs ≡ false → Tells D ⊥ (root E d fs)
   unfolding root
-  t_root n d fs q a = t_left D ⊥ _ _ (t_write 32 32 n d fs q a) (λ bs s₀. b_add R s₀ d.name bs)
+  t_root n d fs q a = t_left D ⊥ _ _ (t_write 96 32 n d fs q a) (λ bs s₀. b_add R s₀ d.name bs)

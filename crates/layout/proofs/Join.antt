@@ -15,7 +15,7 @@ use Rattle.layout.specs.State.{State, Env, Out, done, stop, M, after, bind, ret,
 use Rattle.layout.specs.Kinds
 use Rattle.layout.specs.Members.{says, need}
 use Rattle.layout.specs.Runs.{Writer, Run, run, elements, struct_element, struct_run, text_run, element_run}
-use Rattle.layout.specs.Write.{ARRAYINFO, pair_fields, inline_member, struct_member, embedded_array, array_of, array_member, pair_element, member, members, started, body, write}
+use Rattle.layout.specs.Write.{ARRAYINFO, Writers, writers, pair_fields, inline_member, struct_member, embedded_array, array_of, array_member, pair_element, member, members, started, body, write}
 use Rattle.layout.specs.Slots.{step}
 use Rattle.layout.specs.Parts.{Passes, Contains, Inline, Embedded, RunParts, Joined}
 use Rattle.layout.proofs.Puts.{not_fixed}
@@ -50,7 +50,7 @@ answered m s bs u e =
 
 -- members
 
-module _ (E : Env) (w : Writer) (d : StructDef) (fs : Fields) where
+module _ (E : Env) (w : Writers) (d : StructDef) (fs : Fields) where
   -- a member is written, or skipped
   one : Member → Bytes → M Bytes
   one e buf = if_m (eqb e.name ARRAYINFO) (ret buf) (member E w d e (Kinds.kind_of e.type) (field_named e.name fs) buf)
@@ -98,12 +98,12 @@ module _ (E : Env) (w : Writer) (d : StructDef) (fs : Fields) where
 
 structure_parts : (E : Env) (fuel left : ℕ) (d : StructDef) (fs : Fields) (s : State) (bs : Bytes) (u : State) → write E (suc fuel) left d fs s ≡ done bs u
     → (front : List Member) (e : Member) (behind : List Member) → d.members ≡ front ++ (e ∷ behind) → eqb e.name ARRAYINFO ≡ false
-    → Passes E (write E fuel (left - 1)) d fs front e behind bs u
+    → Passes E (writers (write E fuel) (left - 1)) d fs front e behind bs u
 unfolding write body if_m fail started
 structure_parts E fuel left d fs s bs u ran front e behind split named = go (eqb left 0) ran
   where
-    w : Writer
-    w = write E fuel (left - 1)
+    w : Writers
+    w = writers (write E fuel) (left - 1)
 
     inside : Unit {0} → M Bytes
     inside u = bind (use_struct d.name) (λ _. members E w d fs d.members (zeros d.size))
@@ -190,7 +190,7 @@ module _ {X : Type 0} (f : X → M (Option Bytes)) where
 
 -- members that hold structures or runs in their own bytes, and what a run is made of
 
-module _ (E : Env) (w : Writer) where
+module _ (E : Env) (w : Writers) where
   inline_is : Inline E w
   unfolding member struct_member inline_member need if_m opt_m bind after ret
   inline_is d e v buf s i bs t k z a f h g = rw (k, z, a, f, h, g) refl
@@ -199,6 +199,7 @@ module _ (E : Env) (w : Writer) where
   unfolding member array_member array_of embedded_array need if_m opt_m bind after ret
   embedded_is d e v buf s x r t k i a p g h = rw (k, i, a, p, g, h) refl
 
+module _ (E : Env) (w : Writer) where
   kept_run : {X : Type 0} (stride block : ℕ) (f : X → M (Option Bytes)) (xs : List X) (s : State) (r : Run) (u : State) → run E stride block f xs s ≡ done (Some r) u
       → (r.block ≡ block) × ((t : State) × (elements f xs t ≡ done (Some r.bytes) u))
   unfolding run ret
@@ -249,7 +250,7 @@ parts_join_law E =
       structures = structure_parts E;
       elements_in = run_parts;
       pairs_in = run_parts;
-      inline = λ fuel left. inline_is E (write E fuel left);
-      embedded = λ fuel left. embedded_is E (write E fuel left);
+      inline = λ fuel left. inline_is E (writers (write E fuel) left);
+      embedded = λ fuel left. embedded_is E (writers (write E fuel) left);
       runs = λ fuel left. run_is E (write E fuel left);
     }

@@ -40,3 +40,7 @@ pub mod Rebuild
 pub mod EveryPack
 -- events only grow, so 14 may be refused on the spot
 pub mod Grows
+-- a sheet's levels, and that the end of `write`'s recursion is never reached (`fuel_enough`)
+pub mod Levels
+pub mod Alike
+pub mod Enough

@@ -47,7 +47,7 @@ last_after n k h (stop e es) = tt
 
 root_ended : (E : Env) (d : StructDef) (fs : Fields) (s : State) → Ended d.name (root E d fs s)
 unfolding root bind
-root_ended E d fs s = last_after d.name (λ bs. add_item d.name bs) (λ bs t. ended d.name bs t.core (add_item d.name bs t) (adds d.name bs t)) (write E 32 32 d fs s)
+root_ended E d fs s = last_after d.name (λ bs. add_item d.name bs) (λ bs t. ended d.name bs t.core (add_item d.name bs t) (adds d.name bs t)) (write E 96 32 d fs s)
 
 -- the root is laid last
 last_laid : (T S : Bytes) (work : ℕ) (l : Laid) (m : Made T S work l) → Last m.def.name l.pointer l.state.core

@@ -24,7 +24,7 @@ use Rattle.layout.specs.Members
 use Rattle.layout.specs.Members.{high16, slot_size, enum_size, put_pointer, put_counted}
 use Rattle.layout.specs.Runs.{Writer, Run}
 use Rattle.layout.specs.Write
-use Rattle.layout.specs.Write.{write, members}
+use Rattle.layout.specs.Write.{Writers, writers, write, members}
 use Rattle.layout.specs.Parts.{Sizes}
 
 -- what an action answers: rules for a claim on answers, one for each way to put actions together
@@ -185,7 +185,7 @@ module _ (d : StructDef) (e : Member) (buf : Bytes) (l : length buf ≡ d.size) 
     g_embedded : (m : M (Option Run)) → Gives (Long d.size) (bind m (λ o. opt_m o (ret buf) (λ r. Members.need d e (length r.bytes) buf (ret (over buf e.offset r.bytes)))))
     g_embedded m = g_bind _ _ _ (λ o. g_opt _ o _ _ (g_ret _ buf l) (λ r. g_need _ _ (λ h. g_put r.bytes h)))
 
-    module _ (w : Writer) (hw : (i : StructDef) (fs : Fields) → Gives (Long i.size) (w i fs)) where
+    module _ (w : Writers) (hw : (i : StructDef) (fs : Fields) → Gives (Long i.size) (w.inline i fs)) where
       g_structure : (v : Value) → Gives (Long d.size) (Write.struct_member E w d e v buf)
       unfolding Write.struct_member Write.inline_member Write.pointed_member
       g_structure v =
@@ -196,7 +196,7 @@ module _ (d : StructDef) (e : Member) (buf : Bytes) (l : length buf ≡ d.size) 
           (λ h. g_if _ _ _ _ (λ k. g_bind _ _ _ (λ o. g_opt _ o _ _ (g_ret _ buf l) (λ p. g_ret _ _ (long_pointer d.size buf e.offset _ l (omega (arith, h)))))) (g_ret _ buf l))))
           (g_wrong v)
 
-      g_array : (v : Value) → Gives (Long d.size) (Write.array_member E w d e v buf)
+      g_array : (v : Value) → Gives (Long d.size) (Write.array_member E w.afresh d e v buf)
       unfolding Write.array_member Write.array_of Write.pointed_array Write.embedded_array
       g_array v =
           g_opt _ _ _ _ (left_out 5 0)
@@ -204,12 +204,12 @@ module _ (d : StructDef) (e : Member) (buf : Bytes) (l : length buf ≡ d.size) 
           (λ q. g_if _ _ _ _ (λ p. g_need 16 _ (λ h. g_if _ _ _ _ (λ z. g_ret _ buf l) (g_laid_run d.size _ _ e.offset buf l (omega (arith, h))))) (g_embedded _))
           (g_wrong v))
 
-      g_map : (v : Value) → Gives (Long d.size) (Write.map_member E w d e v buf)
+      g_map : (v : Value) → Gives (Long d.size) (Write.map_member E w.afresh d e v buf)
       unfolding Write.map_member
       g_map v =
           g_if _ _ _ _
           (λ q. g_need 24 _
-          (λ h. g_if _ _ _ _ (λ k. g_pairs E w d e _ _ _ (long_over d.size buf e.offset (words (0x01000000 ∷ [])) l (omega (arith, h, length_words (0x01000000 ∷ [])))) h) (g_wrong v)))
+          (λ h. g_if _ _ _ _ (λ k. g_pairs E w.afresh d e _ _ _ (long_over d.size buf e.offset (words (0x01000000 ∷ [])) l (omega (arith, h, length_words (0x01000000 ∷ [])))) h) (g_wrong v)))
           (left_out 6 _)
 
       g_member : (k : Kinds.Kind) (v : Value) → Gives (Long d.size) (Write.member E w d e k v buf)
@@ -226,7 +226,7 @@ module _ (d : StructDef) (e : Member) (buf : Bytes) (l : length buf ≡ d.size) 
 -- structures
 
 module _ (E : Env) where
-  module _ (w : Writer) (hw : (i : StructDef) (fs : Fields) → Gives (Long i.size) (w i fs)) where
+  module _ (w : Writers) (hw : (i : StructDef) (fs : Fields) → Gives (Long i.size) (w.inline i fs)) where
     g_members : (d : StructDef) (fs : Fields) (es : List Member) (buf : Bytes) → length buf ≡ d.size → Gives (Long d.size) (members E w d fs es buf)
     unfolding members
     g_members d fs [] buf l = g_ret _ buf l
@@ -240,7 +240,7 @@ module _ (E : Env) where
   g_write : (fuel left : ℕ) (d : StructDef) (fs : Fields) → Gives (Long d.size) (write E fuel left d fs)
   unfolding write Write.body
   g_write zero left d fs = g_fail _ 8
-  g_write (suc fuel) left d fs = g_if _ _ _ _ (λ q. g_fail _ 8) (g_started (write E fuel (left - 1)) (λ i gs. g_write fuel (left - 1) i gs) d fs)
+  g_write (suc fuel) left d fs = g_if _ _ _ _ (λ q. g_fail _ 8) (g_started _ (g_write fuel _) d fs)
 
   -- of what a step answered
   given : {A : Type 0} (P : A → Type 0) (m : M A) (s : State) (a : A) (t : State) → Gives P m → m s ≡ done a t → P a
@@ -253,5 +253,5 @@ module _ (E : Env) where
         written = λ fuel left d fs s bs t e. given _ _ s bs t (g_write fuel left d fs) e;
         turns =
             λ fuel left d fs front e behind buf s x.
-            given _ _ x.begun buf s (g_members (write E fuel left) (g_write fuel left) d fs front (zeros d.size) (length-replicate d.size 0)) x.written;
+            given _ _ x.begun buf s (g_members (writers (write E fuel) left) (g_write fuel left) d fs front (zeros d.size) (length-replicate d.size 0)) x.written;
       }

@@ -19,8 +19,8 @@ use Rattle.schema.specs.Defs.{StructDef, Member}
 use Rattle.layout.specs.State.{State, Env, Out, done, stop, M, after, bind, ret, if_m, opt_m, remark, add_item}
 use Rattle.layout.specs.Kinds
 use Rattle.layout.specs.Members.{row_of, reference_at, low16, says, leaves, need, wrong, is_pointer_text, slot_size, put_pointer, text_slot, pointer_member, text_member}
-use Rattle.layout.specs.Runs.{Writer, pointed, pointer_element, text_element}
-use Rattle.layout.specs.Write.{array_info, by_pointer, pairs_of, is_struct_value, is_array_value, pointed_member, struct_member, pointed_array, array_of, array_member, map_of, map_member, member, write, root}
+use Rattle.layout.specs.Runs.{pointed, pointer_element, text_element}
+use Rattle.layout.specs.Write.{Writers, writers, array_info, by_pointer, pairs_of, is_struct_value, is_array_value, pointed_member, struct_member, pointed_array, array_of, array_member, map_of, map_member, member, write, root}
 use Rattle.layout.specs.Slots.{Points, PointsFirst, PointsRoot, PutsOnly, step, TextSlot, ArraySlot, MapSlot, StructSlot, MemberSlot, TextElements, EmptyTexts, StructElements, EmptyElements, Slots}
 use Rattle.layout.proofs.Sizes.{sizes}
 use Rattle.layout.proofs.Laying.{Adds, adds, put_read, points, points_first, text_slot_law, run_slot, there, pointed_is_law}
@@ -30,8 +30,8 @@ use Rattle.layout.proofs.Puts.{o_opt, o_leaves, o_wrong, o_need, o_text, o_point
 
 module _ (E : Env) (fuel left : ℕ) (d : StructDef) (e : Member) (v : Value) (buf : Bytes) (s : State) (l : length buf ≡ d.size) where
   -- the structures that members lead to are written by
-  abbrev w : Writer
-  w = write E fuel left
+  abbrev w : Writers
+  w = writers (write E fuel) left
 
   text_member_law : TextSlot E w d e v buf s
   unfolding member text_member pointer_member need if_m opt_m
@@ -54,7 +54,7 @@ module _ (E : Env) (fuel left : ℕ) (d : StructDef) (e : Member) (v : Value) (b
   struct_member_law : StructSlot E w d e v buf s
   unfolding member struct_member pointed_member need if_m bind opt_m
   struct_member_law i bs t k b h m f g =
-      rw (k, b, h, m, pointed_is_law E w d e e.reference (row_of E v) s i bs t f g, there)
+      rw (k, b, h, m, pointed_is_law E w.afresh d e e.reference (row_of E v) s i bs t f g, there)
       (points i.name bs t.core e.offset _ (λ p q. put_read buf e.offset p (omega (arith, leb-true (e.offset + 8) d.size h, l)) q) (add_item i.name bs t) (adds i.name bs t))
 
   text_only_law : Kinds.kind_of e.type ≡ Kinds.text → is_pointer_text e.subtype ≡ true → PutsOnly s.core buf e.offset (step E w d e v buf s)
@@ -67,16 +67,16 @@ module _ (E : Env) (fuel left : ℕ) (d : StructDef) (e : Member) (v : Value) (b
   unfolding member array_member array_of opt_m if_m
   array_only_law x k i p = rw (k, i, p) (go (is_array_value E (row_of E v)))
     where
-      go : (b : Bool) → PutsOnly s.core buf e.offset (if_m b (pointed_array E w d e x (children_of (row_of E v)) buf) (wrong d e v buf) s)
-      go true = o_pointed_array d e E fuel left x (children_of (row_of E v)) buf l s
+      go : (b : Bool) → PutsOnly s.core buf e.offset (if_m b (pointed_array E w.afresh d e x (children_of (row_of E v)) buf) (wrong d e v buf) s)
+      go true = o_pointed_array d e E fuel 32 x (children_of (row_of E v)) buf l s
       go false = o_wrong E d e v buf e.offset s
 
   struct_only : Kinds.kind_of e.type ≡ Kinds.structure → eqb e.subtype 0 ≡ false → PutsOnly s.core buf e.offset (step E w d e v buf s)
   unfolding member struct_member if_m
   struct_only k z = rw (k, z) (go (is_struct_value E (row_of E v)))
     where
-      go : (b : Bool) → PutsOnly s.core buf e.offset (if_m b (pointed_member E w d e (row_of E v) buf) (wrong d e v buf) s)
-      go true = o_pointed_member d e E fuel left (row_of E v) buf l s
+      go : (b : Bool) → PutsOnly s.core buf e.offset (if_m b (pointed_member E w.afresh d e (row_of E v) buf) (wrong d e v buf) s)
+      go true = o_pointed_member d e E fuel 32 (row_of E v) buf l s
       go false = o_wrong E d e v buf e.offset s
 
   map_only_law : Kinds.kind_of e.type ≡ Kinds.map
@@ -91,13 +91,13 @@ module _ (E : Env) (fuel left : ℕ) (d : StructDef) (e : Member) (v : Value) (b
       Either m = PutsOnly s.core buf (e.offset + 8) (m s) ⊎ PutsOnly s.core marked (e.offset + 8) (m s)
 
       pairs : M Bytes
-      pairs = map_of E w d e (reference_at d (low16 e.reference)) (pairs_of (children_of (row_of E v))) marked
+      pairs = map_of E w.afresh d e (reference_at d (low16 e.reference)) (pairs_of (children_of (row_of E v))) marked
 
       held : (b : Bool) → e.offset + 24 ≤ d.size → Either (if_m b pairs (wrong d e v buf))
       held true h =
           let n : length (words (0x01000000 ∷ [])) ≡ 4 = length_words (0x01000000 ∷ []) in
           let o : length marked ≡ length buf = length_over buf e.offset (words (0x01000000 ∷ [])) (omega (arith, n, h, l)) in
-          inr (o_map_of d e E fuel left (reference_at d (low16 e.reference)) (pairs_of (children_of (row_of E v))) marked (o ∙ l) h s)
+          inr (o_map_of d e E fuel 32 (reference_at d (low16 e.reference)) (pairs_of (children_of (row_of E v))) marked (o ∙ l) h s)
       held false h = inl (o_wrong E d e v buf (e.offset + 8) s)
 
       fitting : (b : Bool) → leb (e.offset + 24) d.size ≡ b
@@ -149,7 +149,7 @@ module _ (E : Env) where
   unfolding text_element text_slot if_m bind after ret
   empty_texts_law sub r s z = rw z refl
 
-  root_laid : (d : StructDef) (fs : Fields) (s : State) (bs : Bytes) (t : State) → write E 32 32 d fs s ≡ done bs t → PointsRoot d.name bs t.core (root E d fs s)
+  root_laid : (d : StructDef) (fs : Fields) (s : State) (bs : Bytes) (t : State) → write E 96 32 d fs s ≡ done bs t → PointsRoot d.name bs t.core (root E d fs s)
   unfolding root bind after
   root_laid d fs s bs t e = rw e (go (add_item d.name bs t) (adds d.name bs t))
     where

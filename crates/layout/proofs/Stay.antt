@@ -10,7 +10,7 @@ use Rattle.schema.specs.Defs.{StructDef, Member}
 use Rattle.layout.specs.State.{Core, Env, Out, done, stop, M, use_struct_c, use_enum_c, add_item, add_item_c}
 use Rattle.layout.specs.Kinds
 use Rattle.layout.specs.Runs.{run, struct_element, elements, element_run}
-use Rattle.layout.specs.Write.{pair_element, write}
+use Rattle.layout.specs.Write.{writers, pair_element, write}
 use Rattle.layout.specs.Slots.{Further}
 use Rattle.layout.specs.Parts.{Stays, OnlyAdds, LaidStays}
 use Rattle.layout.proofs.Keep.{Claim, Okay, Keeps, k_ret, k_bind, k_if, r_keeps}
@@ -98,8 +98,8 @@ module _ (E : Env) where
   pub laid_stays_law : LaidStays E
   laid_stays_law =
       record {
-        member = λ fuel left d e k v buf. only_adds _ (λ a. k_member E (standing a) (stay_prims E a) (write E fuel left) (stay_inner a fuel left) d e k v buf);
-        members = λ fuel left d fs es buf. only_adds _ (λ a. k_members E (standing a) (stay_prims E a) (write E fuel left) (stay_inner a fuel left) d fs es buf);
+        member = λ fuel left d e k v buf. only_adds _ (λ a. k_member E (standing a) (stay_prims E a) (writers (write E fuel) left) (stay_inner a fuel left) (stay_inner a fuel 32) d e k v buf);
+        members = λ fuel left d fs es buf. only_adds _ (λ a. k_members E (standing a) (stay_prims E a) (writers (write E fuel) left) (stay_inner a fuel left) (stay_inner a fuel 32) d fs es buf);
         text = λ sub r. only_adds _ (λ a. k_text_element E (standing a) (stay_prims E a) (write E 0 0) (stay_inner a 0 0) sub r);
         pointer = λ fuel left d e ref r. only_adds _ (λ a. k_pointer_element E (standing a) (stay_prims E a) (write E fuel left) (stay_inner a fuel left) d e ref r);
         structure = λ fuel left d e i r. only_adds _ (λ a. stay_element a fuel left d e i r);

@@ -2,7 +2,7 @@
 -- Items are filed in blocks with the names of definitions and with the numbers up to 200 of raw storage.
 -- Assumes nothing.
 use Rattle.std.specs.Prelude.{Option, Some, is_some}
-use Prim.Native.Nat.{ℕ, zero, suc, ◌-◌, ◌≤◌}
+use Prim.Native.Nat.{ℕ, zero, suc, ◌≤◌}
 use native.Mathlib.Omega.{arith}
 use mathlib.Core.Bool.{Bool, true, false, cond}
 use mathlib.Core.Path.{◌≡◌}
@@ -18,7 +18,7 @@ use Rattle.layout.specs.State.{Env, M, Remark, fail, fit_m, remark, pay, use_str
 use Rattle.layout.specs.Kinds
 use Rattle.layout.specs.Members.{says, leaves, need, wrong, scalar_member, add_string, text_slot, fixed_member, pointer_member, hash_member, text_member, use_enum_of, named_member, enum_member, flags_member}
 use Rattle.layout.specs.Runs.{Writer, Run, scalar_block, elements, run, stops, pointed, pointer_element, struct_element, text_element, fixed_element, hash_element, enum_element, scalar_element, struct_run, fixed_run, text_run, enum_run, element_run}
-use Rattle.layout.specs.Write.{inline_member, pointed_member, struct_member, laid_run, pointed_array, embedded_array, array_of, array_member, pair_element, map_of, map_member, member, members, started, body, write, root}
+use Rattle.layout.specs.Write.{Writers, inline_member, pointed_member, struct_member, laid_run, pointed_array, embedded_array, array_of, array_member, pair_element, map_of, map_member, member, members, started, body, write, root}
 use Rattle.layout.proofs.Keep.{Claim, Keeps, KeepsRun, Refusable, k_ret, k_deep, k_bind, k_if, k_opt, k_when, k_fit, r_none, r_map, r_bind, r_if, r_opt, l_bind}
 
 small_cond : (N : ℕ → Type 0) (b : Bool) (x y : ℕ) → N x → N y → N (cond b x y)
@@ -127,7 +127,11 @@ module _ (E : Env) (C : Claim) (h : Prims E C) where
   unfolding laid_run
   k_laid_run m n off buf hm = l_bind C m _ _ hm (k_ret C buf) (λ r p. k_bind C _ _ (h.add_keeps r.block r.bytes p) (λ q. k_ret C _))
 
-  module _ (w : Writer) (hw : (n : ℕ) (i : StructDef) (fs : Fields) → E.defs.struct n ≡ Some i → Keeps C (w i fs)) where
+  -- w keeps it, whatever structure of a definition in E it writes
+  abbrev pub Keeping : Writer → Type 0
+  Keeping w = (n : ℕ) (i : StructDef) (fs : Fields) → E.defs.struct n ≡ Some i → Keeps C (w i fs)
+
+  module _ (w : Writer) (hw : Keeping w) where
     pub k_pointed : (d : StructDef) (e : Member) (ref : ℕ) (v : Row) → Keeps C (pointed E w d e ref v)
     unfolding pointed
     k_pointed d e ref v = search (along, k_says, add_named, hw)
@@ -208,10 +212,6 @@ module _ (E : Env) (C : Claim) (h : Prims E C) where
     unfolding pointed_member
     k_pointed_member d e v buf = search (along, k_need, k_pointed)
 
-    pub k_struct_member : (d : StructDef) (e : Member) (v : Value) (buf : Bytes) → Keeps C (struct_member E w d e v buf)
-    unfolding struct_member
-    k_struct_member d e v buf = search (along, k_wrong, k_inline_member, k_pointed_member)
-
     pub k_pointed_array : (d : StructDef) (e x : Member) (rs : List ℕ) (buf : Bytes) → Keeps C (pointed_array E w d e x rs buf)
     unfolding pointed_array
     k_pointed_array d e x rs buf = search (along, k_need, k_laid_run, k_element_run)
@@ -239,15 +239,21 @@ module _ (E : Env) (C : Claim) (h : Prims E C) where
     unfolding map_member
     k_map_member d e v buf = search (along, k_need, k_wrong, k_leaves, k_map_of)
 
+  -- members, which lead to structures inline and afresh
+  module _ (w : Writers) (hi : Keeping w.inline) (ha : Keeping w.afresh) where
+    pub k_struct_member : (d : StructDef) (e : Member) (v : Value) (buf : Bytes) → Keeps C (struct_member E w d e v buf)
+    unfolding struct_member
+    k_struct_member d e v buf = search (along, k_wrong, k_inline_member w.inline hi, k_pointed_member w.afresh ha)
+
     pub k_member : (d : StructDef) (e : Member) (k : Kinds.Kind) (v : Value) (buf : Bytes) → Keeps C (member E w d e k v buf)
     unfolding member enum_member flags_member
     k_member d e (Kinds.scalar s) v buf = k_scalar_member s d e v buf
     k_member d e Kinds.text v buf = k_text_member d e v buf
     k_member d e Kinds.structure v buf = k_struct_member d e v buf
-    k_member d e Kinds.array v buf = k_array_member d e v buf
+    k_member d e Kinds.array v buf = k_array_member w.afresh ha d e v buf
     k_member d e Kinds.enumeration v buf = k_named_member _ _ d e v buf
     k_member d e Kinds.flags v buf = k_named_member _ _ d e v buf
-    k_member d e Kinds.map v buf = k_map_member d e v buf
+    k_member d e Kinds.map v buf = k_map_member w.afresh ha d e v buf
     k_member d e Kinds.other v buf = k_leaves d e 13 e.type buf
 
     pub k_members : (d : StructDef) (fs : Fields) (es : List Member) (buf : Bytes) → Keeps C (members E w d fs es buf)
@@ -262,11 +268,12 @@ module _ (E : Env) (C : Claim) (h : Prims E C) where
   pub k_write : (fuel left : ℕ) (d : StructDef) (fs : Fields) → h.starts d → Keeps C (write E fuel left d fs)
   unfolding write body
   k_write zero left d fs q = search along
-  k_write (suc fuel) left d fs q = search (along, k_started (write E fuel (left - 1)) (λ n i gs e. k_write fuel (left - 1) i gs (h.found n i e).0) d fs q)
+  k_write (suc fuel) left d fs q =
+      k_if C _ _ _ (k_fails Bytes) (k_started _ (λ n i gs e. k_write fuel _ i gs (h.found n i e).0) (λ n i gs e. k_write fuel _ i gs (h.found n i e).0) d fs q)
 
   pub k_root : (d : StructDef) (fs : Fields) → h.starts d → Keeps C (root E d fs)
   unfolding root
-  k_root d fs q = search (along, add_root, k_write 32 32 d fs q)
+  k_root d fs q = search (along, add_root, k_write 96 32 d fs q)
     where
       add_root : (bs : Bytes) → Keeps C (add_item d.name bs)
       add_root bs = h.add_keeps d.name bs (h.named d q)

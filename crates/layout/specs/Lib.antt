@@ -4,6 +4,7 @@ pub mod Kinds
 pub mod Members
 pub mod Runs
 pub mod Write
+pub mod Fuel
 pub mod Assemble
 pub mod Build
 pub mod Slots

@@ -7,7 +7,7 @@ use Rattle.layout.specs.State.{Core, State, Env, Out, done, stop, M, add_item}
 use Rattle.layout.specs.Kinds
 use Rattle.layout.specs.Members.{row_of, high16, is_pointer_text, slot_size}
 use Rattle.layout.specs.Runs.{Writer, Run, run, slot_block, pointer_element, struct_element, text_element, elements, element_run}
-use Rattle.layout.specs.Write.{ARRAYINFO, array_info, by_pointer, pair_fields, is_struct_value, is_array_value, pair_element, member, members, write, root}
+use Rattle.layout.specs.Write.{ARRAYINFO, array_info, by_pointer, pair_fields, is_struct_value, is_array_value, Writers, writers, pair_element, member, members, write, root}
 use Rattle.layout.specs.Slots.{Further, Turn, step}
 
 -- lengths
@@ -16,12 +16,12 @@ use Rattle.layout.specs.Slots.{Further, Turn, step}
 pub record Sizes (E : Env) : Type 0 where
   pub written : (fuel left : ℕ) (d : StructDef) (fs : Fields) (s : State) (bs : Bytes) (t : State) → write E fuel left d fs s ≡ done bs t → length bs ≡ d.size
   pub turns : (fuel left : ℕ) (d : StructDef) (fs : Fields) (front : List Member) (e : Member) (behind : List Member) (buf : Bytes) (s : State)
-      → Turn E (write E fuel left) d fs front e behind buf s → length buf ≡ d.size
+      → Turn E (writers (write E fuel) left) d fs front e behind buf s → length buf ≡ d.size
 
 -- parts
 
 -- the turn of member e came, its step answered `next`, the members behind it went on from there and ended with the structure's bytes bs in the state u
-pub record Passes (E : Env) (w : Writer) (d : StructDef) (fs : Fields) (front : List Member) (e : Member) (behind : List Member) (bs : Bytes) (u : State) : Type 0 where
+pub record Passes (E : Env) (w : Writers) (d : StructDef) (fs : Fields) (front : List Member) (e : Member) (behind : List Member) (bs : Bytes) (u : State) : Type 0 where
   pub buf : Bytes
   pub state : State
   pub turn : Turn E w d fs front e behind buf state
@@ -43,13 +43,13 @@ pub record Contains {X : Type 0} (f : X → M (Option Bytes)) (front : List X) (
   pub joined : bs ≡ first ++ (own ++ last)
 
 -- what a member's own bytes are, where a structure or a run stands in them: w writes the structures that members lead to
-module _ (E : Env) (w : Writer) where
+module _ (E : Env) (w : Writers) where
   -- a structure inline that fits, of the definition i, with the bytes bs
   abbrev pub Inline : Type 0
   Inline =
       (d : StructDef) (e : Member) (v : Value) (buf : Bytes) (s : State) (i : StructDef) (bs : Bytes) (t : State)
       → Kinds.kind_of e.type ≡ Kinds.structure → eqb e.subtype 0 ≡ true → is_struct_value E (row_of E v) ≡ true → E.defs.struct e.reference ≡ Some i
-      → leb (e.offset + i.size) d.size ≡ true → w i (fields_of E.sheet (row_of E v)) s ≡ done bs t
+      → leb (e.offset + i.size) d.size ≡ true → w.inline i (fields_of E.sheet (row_of E v)) s ≡ done bs t
       → step E w d e v buf s ≡ done (over buf e.offset bs) t
 
   -- an embedded array whose run r fits
@@ -57,10 +57,12 @@ module _ (E : Env) (w : Writer) where
   Embedded =
       (d : StructDef) (e : Member) (v : Value) (buf : Bytes) (s : State) (x : Member) (r : Run) (t : State)
       → Kinds.kind_of e.type ≡ Kinds.array → array_info d e ≡ Some x → is_array_value E (row_of E v) ≡ true → by_pointer e.subtype x.subtype ≡ false
-      → element_run E w d e x (Kinds.kind_of x.type) (take (high16 e.reference) (children_of (row_of E v))) s ≡ done (Some r) t
+      → element_run E w.afresh d e x (Kinds.kind_of x.type) (take (high16 e.reference) (children_of (row_of E v))) s ≡ done (Some r) t
       → leb (e.offset + length r.bytes) d.size ≡ true
       → step E w d e v buf s ≡ done (over buf e.offset r.bytes) t
 
+-- what a run is made of: w writes the structures that its elements are or point to
+module _ (E : Env) (w : Writer) where
   -- a run that is kept is its elements' bytes, in a block of the run's name. Which elements: texts by pointer; structures by pointer; structures of the definition i
   pub record RunParts : Type 0 where
     pub kept : (stride block : ℕ) (f : ℕ → M (Option Bytes)) (rs : List ℕ) (s : State) (r : Run) (u : State) → run E stride block f rs s ≡ done (Some r) u
@@ -83,13 +85,13 @@ module _ (E : Env) (w : Writer) where
 pub record Joined (E : Env) : Type 0 where
   pub structures : (fuel left : ℕ) (d : StructDef) (fs : Fields) (s : State) (bs : Bytes) (u : State) → write E (suc fuel) left d fs s ≡ done bs u
       → (front : List Member) (e : Member) (behind : List Member) → d.members ≡ front ++ (e ∷ behind) → eqb e.name ARRAYINFO ≡ false
-      → Passes E (write E fuel (left - 1)) d fs front e behind bs u
+      → Passes E (writers (write E fuel) (left - 1)) d fs front e behind bs u
   pub elements_in : (f : ℕ → M (Option Bytes)) (front : List ℕ) (r : ℕ) (behind : List ℕ) (s : State) (bs : Bytes) (u : State)
       → elements f (front ++ (r ∷ behind)) s ≡ done (Some bs) u → Contains f front r behind s bs u
   pub pairs_in : (f : ℕ × ℕ → M (Option Bytes)) (front : List (ℕ × ℕ)) (p : ℕ × ℕ) (behind : List (ℕ × ℕ)) (s : State) (bs : Bytes) (u : State)
       → elements f (front ++ (p ∷ behind)) s ≡ done (Some bs) u → Contains f front p behind s bs u
-  pub inline : (fuel left : ℕ) → Inline E (write E fuel left)
-  pub embedded : (fuel left : ℕ) → Embedded E (write E fuel left)
+  pub inline : (fuel left : ℕ) → Inline E (writers (write E fuel) left)
+  pub embedded : (fuel left : ℕ) → Embedded E (writers (write E fuel) left)
   pub runs : (fuel left : ℕ) → RunParts E (write E fuel left)
 
 -- what was laid stays
@@ -107,8 +109,8 @@ OnlyAdds m = (s : State) → Stays s.core (m s)
 -- of a run, items that are laid: so the item that was laid for a slot is still there at the end, in a block of the same name
 pub record LaidStays (E : Env) : Type 0 where
   -- a member, and those behind it
-  pub member : (fuel left : ℕ) (d : StructDef) (e : Member) (k : Kinds.Kind) (v : Value) (buf : Bytes) → OnlyAdds (member E (write E fuel left) d e k v buf)
-  pub members : (fuel left : ℕ) (d : StructDef) (fs : Fields) (es : List Member) (buf : Bytes) → OnlyAdds (members E (write E fuel left) d fs es buf)
+  pub member : (fuel left : ℕ) (d : StructDef) (e : Member) (k : Kinds.Kind) (v : Value) (buf : Bytes) → OnlyAdds (member E (writers (write E fuel) left) d e k v buf)
+  pub members : (fuel left : ℕ) (d : StructDef) (fs : Fields) (es : List Member) (buf : Bytes) → OnlyAdds (members E (writers (write E fuel) left) d fs es buf)
   -- an element of a run, in each of the four ways that lay items, and those behind it
   pub text : (sub r : ℕ) → OnlyAdds (text_element E sub r)
   pub pointer : (fuel left : ℕ) (d : StructDef) (e : Member) (ref r : ℕ) → OnlyAdds (pointer_element E (write E fuel left) d e ref r)

@@ -1,5 +1,5 @@
 -- Runs: the elements of an array, and structures reached by pointer.
--- w writes a structure one deeper; d and e are the structure and its array member, x what ARRAYINFO says of the elements, r a row, rs the elements' rows.
+-- w writes a structure afresh; d and e are the structure and its array member, x what ARRAYINFO says of the elements, r a row, rs the elements' rows.
 use Rattle.std.specs.Prelude.{ℕ, ◌+◌, ◌-◌, ◌*◌, cond, ◌||◌, List, [], ◌∷◌, ◌++◌, leb, eqb, length, take, Option, Some, None, is_some, unwrap_or, option_map}
 use Rattle.numbers.specs.Words.{Bytes, bytes_of, padded, zeros}
 use Rattle.value.specs.Rows.{Row, row, Fields, fields_of, Struct, Null}

@@ -11,7 +11,7 @@ use Rattle.layout.specs.State.{Item, Block, Core, State, Env, Out, done, stop, w
 use Rattle.layout.specs.Kinds
 use Rattle.layout.specs.Members.{row_of, reference_at, low16, is_pointer_text, slot_size}
 use Rattle.layout.specs.Runs.{Writer, Run, run, own_type, pointer_element, text_element, element_run}
-use Rattle.layout.specs.Write.{array_info, by_pointer, pairs_of, is_array_value, pair_element, member, members, write, root}
+use Rattle.layout.specs.Write.{array_info, by_pointer, pairs_of, is_array_value, Writers, writers, pair_element, member, members, write, root}
 
 -- the item just laid
 
@@ -61,13 +61,13 @@ PutsOnly a buf off (stop k es) = Unit {0}
 
 -- it is the turn of member e in writing a structure of the definition d with the values fs: the members in front of e are written, the structure's bytes
 -- are buf, the state is s. w writes the structures that members lead to
-pub record Turn (E : Env) (w : Writer) (d : StructDef) (fs : Fields) (front : List Member) (e : Member) (behind : List Member) (buf : Bytes) (s : State) : Type 0 where
+pub record Turn (E : Env) (w : Writers) (d : StructDef) (fs : Fields) (front : List Member) (e : Member) (behind : List Member) (buf : Bytes) (s : State) : Type 0 where
   pub split : d.members ≡ front ++ (e ∷ behind)
   pub begun : State
   pub written : members E w d fs front (zeros d.size) begun ≡ done buf s
 
 -- member e of a structure of the definition d is written: v is its value, buf the structure's bytes so far
-module _ (E : Env) (w : Writer) (d : StructDef) (e : Member) (v : Value) (buf : Bytes) (s : State) where
+module _ (E : Env) (w : Writers) (d : StructDef) (e : Member) (v : Value) (buf : Bytes) (s : State) where
   -- what writing it gives
   abbrev pub step : Out Bytes
   step = member E w d e (Kinds.kind_of e.type) v buf s
@@ -83,7 +83,7 @@ module _ (E : Env) (w : Writer) (d : StructDef) (e : Member) (v : Value) (buf : 
   ArraySlot =
       (x : Member) (r : Run) (t : State) → Kinds.kind_of e.type ≡ Kinds.array → array_info d e ≡ Some x → is_array_value E (row_of E v) ≡ true
       → by_pointer e.subtype x.subtype ≡ true → leb (e.offset + 16) d.size ≡ true → is_empty (children_of (row_of E v)) ≡ false
-      → element_run E w d e x (Kinds.kind_of x.type) (children_of (row_of E v)) s ≡ done (Some r) t
+      → element_run E w.afresh d e x (Kinds.kind_of x.type) (children_of (row_of E v)) s ≡ done (Some r) t
       → Points r.block r.bytes e.offset t.core step
 
   -- a supported map, whose 24 bytes fit, with pairs: its run of pairs, structures of the definition i. The pointer stands 8 bytes behind the map's start
@@ -92,16 +92,16 @@ module _ (E : Env) (w : Writer) (d : StructDef) (e : Member) (v : Value) (buf : 
       (i : StructDef) (r : Run) (t : State) → Kinds.kind_of e.type ≡ Kinds.map → eqb e.subtype 1 ≡ true → leb (e.offset + 24) d.size ≡ true
       → (eqb (row_of E v).kind Map || eqb (row_of E v).kind Null) ≡ true → is_empty (pairs_of (children_of (row_of E v))) ≡ false
       → E.defs.struct (reference_at d (low16 e.reference)) ≡ Some i
-      → run E i.size (reference_at d (low16 e.reference)) (pair_element E w i) (pairs_of (children_of (row_of E v))) s ≡ done (Some r) t
+      → run E i.size (reference_at d (low16 e.reference)) (pair_element E w.afresh i) (pairs_of (children_of (row_of E v))) s ≡ done (Some r) t
       → Points r.block r.bytes (e.offset + 8) t.core step
 
-  -- a structure by pointer, whose 8 bytes fit: the Struct is written by w as a structure of the definition i, of the row's own type where the schema has it, else
+  -- a structure by pointer, whose 8 bytes fit: the Struct is written afresh as a structure of the definition i, of the row's own type where the schema has it, else
   -- of the reference, with the bytes bs; t is the state after that
   abbrev pub StructSlot : Type 0
   StructSlot =
       (i : StructDef) (bs : Bytes) (t : State) → Kinds.kind_of e.type ≡ Kinds.structure → eqb e.subtype 0 ≡ false → leb (e.offset + 8) d.size ≡ true
       → eqb (row_of E v).kind Struct ≡ true → E.defs.struct (own_type E (row_of E v) e.reference) ≡ Some i
-      → w i (fields_of E.sheet (row_of E v)) s ≡ done bs t
+      → w.afresh i (fields_of E.sheet (row_of E v)) s ≡ done bs t
       → Points i.name bs e.offset t.core step
 
   -- all four; and whatever the value is, no other pointer is put: the structure's bytes are as they were (a map's 0x01000000 in its first four bytes aside),
@@ -149,13 +149,13 @@ module _ (E : Env) where
       → pointer_element E w d e ref r s
       ≡ done (Some (zeros 8)) (with_remark (record { kind = 4; structure = d.name; member = e.name; detail = own_type E (row E.sheet r) ref }) s))
 
--- the slots of every member whose turn comes, at any depth, of every text and structure element, and the root, which is written and then laid
+-- the slots of every member whose turn comes, in whatever structure, of every text and structure element, and the root, which is written and then laid
 pub record Slots (E : Env) : Type 0 where
   pub members : (fuel left : ℕ) (d : StructDef) (fs : Fields) (front : List Member) (e : Member) (behind : List Member) (buf : Bytes) (s : State)
-      → Turn E (write E fuel left) d fs front e behind buf s → MemberSlot E (write E fuel left) d e (field_named e.name fs) buf s
+      → Turn E (writers (write E fuel) left) d fs front e behind buf s → MemberSlot E (writers (write E fuel) left) d e (field_named e.name fs) buf s
   pub text_elements : TextElements E
   pub empty_texts : EmptyTexts E
   pub struct_elements : StructElements E
   pub empty_elements : EmptyElements E
-  pub root : (d : StructDef) (fs : Fields) (s : State) (bs : Bytes) (t : State) → write E 32 32 d fs s ≡ done bs t
+  pub root : (d : StructDef) (fs : Fields) (s : State) (bs : Bytes) (t : State) → write E 96 32 d fs s ≡ done bs t
       → PointsRoot d.name bs t.core (root E d fs s)

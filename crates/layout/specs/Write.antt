@@ -1,5 +1,6 @@
 -- "A structure leads to its members and a member to further structures, inline, by pointer, in runs and in map pairs."
--- w writes a structure one deeper; d is the structure's definition, e the member, v its value, buf the structure's bytes so far.
+-- w writes the structures that a member leads to: one inline, others afresh, or both (`Writers`); d is the structure's definition, e the member, v its value,
+-- buf the structure's bytes so far.
 use Rattle.std.specs.Prelude.{ℕ, zero, suc, ◌+◌, ◌-◌, Bool, true, false, cond, ◌&&◌, ◌||◌, List, [], ◌∷◌, ltb, eqb, length, take, Option, Some}
 use Rattle.numbers.specs.Words.{Bytes, words, over, is_empty, zeros}
 use Rattle.numbers.specs.Result.{nth}
@@ -39,6 +40,16 @@ named (m ∷ ms) (r ∷ rs) = elim (eqb m.name ARRAYINFO) [ true ↦ named ms (r
 abbrev pub pair_fields : StructDef → ℕ × ℕ → Fields
 pair_fields d p = named d.members (p.0 ∷ p.1 ∷ [])
 
+-- the writers of what members lead to: "Depth from now on counts only structures written inline inside one another. A structure reached by pointer, in a run
+-- or as a map pair starts again at 1"
+pub record Writers : Type 0 where
+  pub inline : Writer
+  pub afresh : Writer
+
+-- rec writes with a given number of depths left; inline `left` are left, afresh all 32
+abbrev pub writers : (ℕ → Writer) → ℕ → Writers
+writers rec left = record { inline = rec left; afresh = rec 32 }
+
 -- a run that is kept is filed, and its pointer stands at off with its count n
 unfoldable pub laid_run : M (Option Run) → ℕ → ℕ → Bytes → M Bytes
 laid_run m n off buf =
@@ -64,10 +75,10 @@ module _ (E : Env) where
   is_struct_value v = eqb v.kind Struct || eqb v.kind Null || (eqb v.kind Str && eqb v.b 0)
 
   -- subtype 0 is inline, any other by pointer
-  unfoldable pub struct_member : Writer → StructDef → Member → Value → Bytes → M Bytes
+  unfoldable pub struct_member : Writers → StructDef → Member → Value → Bytes → M Bytes
   struct_member w d e v buf =
       if_m (is_struct_value (row_of E v))
-      (if_m (eqb e.subtype 0) (inline_member w d e (row_of E v) buf) (pointed_member w d e (row_of E v) buf))
+      (if_m (eqb e.subtype 0) (inline_member w.inline d e (row_of E v) buf) (pointed_member w.afresh d e (row_of E v) buf))
       (wrong d e v buf)
 
   -- an array by pointer; without items it ends here
@@ -120,40 +131,40 @@ module _ (E : Env) where
       (leaves d e 6 e.subtype buf)
 
   -- a member by its kind; remark 13: "member type"
-  unfoldable pub member : Writer → StructDef → Member → Kinds.Kind → Value → Bytes → M Bytes
+  unfoldable pub member : Writers → StructDef → Member → Kinds.Kind → Value → Bytes → M Bytes
   member w d e (Kinds.scalar s) v buf = scalar_member E s d e v buf
   member w d e Kinds.text v buf = text_member E d e v buf
   member w d e Kinds.structure v buf = struct_member w d e v buf
-  member w d e Kinds.array v buf = array_member w d e v buf
+  member w d e Kinds.array v buf = array_member w.afresh d e v buf
   member w d e Kinds.enumeration v buf = enum_member E d e v buf
   member w d e Kinds.flags v buf = flags_member E d e v buf
-  member w d e Kinds.map v buf = map_member w d e v buf
+  member w d e Kinds.map v buf = map_member w.afresh d e v buf
   member w d e Kinds.other v buf = leaves d e 13 e.type buf
 
   -- "Members are written in definition order, name 0x100 (ARRAYINFO) skipped"
-  unfoldable pub members : Writer → StructDef → Fields → List Member → Bytes → M Bytes
+  unfoldable pub members : Writers → StructDef → Fields → List Member → Bytes → M Bytes
   members w d fs [] buf = ret buf
   members w d fs (e ∷ es) buf =
       bind (if_m (eqb e.name ARRAYINFO) (ret buf) (member w d e (Kinds.kind_of e.type) (field_named e.name fs) buf)) λ b.
       members w d fs es b
 
   -- a structure that has started: "each started structure .. costs 16 plus its full length"
-  unfoldable pub started : Writer → Writer
+  unfoldable pub started : Writers → Writer
   started w d fs =
       bind (pay E (16 + d.size)) λ _. bind (use_struct d.name) λ _. members w d fs d.members (zeros d.size)
 
   -- 8: "a structure would start at depth 33"; `left` depths are left, and rec writes with a given number of them
   unfoldable pub body : (ℕ → Writer) → ℕ → Writer
-  body rec left d fs = if_m (eqb left 0) (fail 8) (started (rec (left - 1)) d fs)
+  body rec left d fs = if_m (eqb left 0) (fail 8) (started (writers rec (left - 1)) d fs)
 
-  -- the recursion ends by its first argument, which is never below `left`
+  -- the recursion ends by its first argument, how many structures can start inside one another. It is never used up on a sheet that keeps its layout (Fuel)
   unfoldable pub write : ℕ → ℕ → Writer
   write zero left d fs = fail 8
   write (suc fuel) left d fs = body (write fuel) left d fs
 
-  -- "The root is laid last"; "the root has depth 1"
+  -- "The root is laid last"; "the root has depth 1". 96 are "the sheet's 64 levels" and the 32 depths
   unfoldable pub root : StructDef → Fields → M ℕ
-  root d fs = bind (write 32 32 d fs) λ bs. add_item d.name bs
+  root d fs = bind (write 96 32 d fs) λ bs. add_item d.name bs
 
 -- for evaluation
 unfoldable pub evaluated : ℕ → ℕ

@@ -9,7 +9,7 @@ use lib.Dec.{eqb, leb, ltb}
 use lib.ListN.{length}
 use Rattle.numbers.specs.Words.{Bytes}
 use Rattle.value.specs.Rows.{Row, row, row_count, text_area, child_count, first_child}
-use Rattle.sheet.specs.Layout.{Walk, begin, is_container, row_sound, text_bytes, sits, placed, after, walks, laid_out}
+use Rattle.sheet.specs.Layout.{Walk, begin, level_at, is_container, row_sound, text_bytes, sits, placed, after, walks, laid_out}
 use Rattle.sheet.proofs.Laws.{and_false, walks_step, walks_stop}
 
 no : true ≡ false → ⊥
@@ -28,7 +28,7 @@ pub record At (T : Bytes) (r : ℕ) : Type 0 where
   pub rest : walks T left (suc r) (after walk r (row T r)) ≡ true
 
 module _ (T : Bytes) where
-  one : (n r : ℕ) (w : Walk) → walks T (suc n) r w ≡ true → (placed T w r ≡ true) × (walks T n (suc r) (after w r (row T r)) ≡ true)
+  pub one : (n r : ℕ) (w : Walk) → walks T (suc n) r w ≡ true → (placed T w r ≡ true) × (walks T n (suc r) (after w r (row T r)) ≡ true)
   one n r w h = by (placed T w r) refl where
     by : (t : Bool) → placed T w r ≡ t → (placed T w r ≡ true) × (walks T n (suc r) (after w r (row T r)) ≡ true)
     by true q = (q, sym (walks_step T n r w q) ∙ h)
@@ -51,7 +51,7 @@ module _ (T : Bytes) where
       omega arith
   texts_in (suc n) r w h = let k = texts_in n (suc r) (after w r (row T r)) (one n r w h).1 in omega arith
 
-  -- of a row: sound by itself, its children behind it and in the sheet, its text in the area
+  -- of a row: sound by itself, at most level 64, its children behind it and in the sheet, its text in the area
   module _ (r : ℕ) (a : At T r) where
     abbrev pub v : Row
     v = row T r
@@ -64,15 +64,19 @@ module _ (T : Bytes) where
     unfolding sits
     sound = part (row_sound v) _ s (λ q. rw (q, and_false))
 
-    before : r < a.walk.claimed
+    pub before : r < a.walk.claimed
     unfolding sits
     before = ltb-true _ _ (part (ltb r a.walk.claimed) _ s (λ q. rw q))
+
+    pub level : level_at a.walk r ≤ 64
+    unfolding sits
+    level = leb-true _ _ (part (leb (level_at a.walk r) 64) _ s (λ q. rw (q, and_false)))
 
     room : a.walk.claimed + child_count v ≤ row_count T
     unfolding sits
     room = leb-true _ _ (part (leb (a.walk.claimed + child_count v) (row_count T)) _ s (λ q. rw (q, and_false)))
 
-    first : is_container v.kind ≡ true → first_child v ≡ a.walk.claimed
+    pub first : is_container v.kind ≡ true → first_child v ≡ a.walk.claimed
     unfolding sits
     first c = eqb-true _ _ (part (eqb (first_child v) a.walk.claimed) _ s (λ q. rw (c, q, and_false)))
 
