@@ -80,14 +80,14 @@ module _ (T F : Bytes) (R : Round) (n : ℕ) (w : Bytes) (d : Def) where
     at_root S e f g = let z : Some (def_of F d) ≡ Some e = sym (wins S f) ∙ g in cc
 
     -- the structure is refused
-    pub root_refused : (k : ℕ) (t : Progress) (v : Bytes) → Pushes (Named F d) R n (beginning_of R) w d.size (λ S. deeper T R 32 S (def_of F d) (fields_of T (row T 0))) (refuses k t) v
+    pub root_refused : (k : ℕ) (t : Progress) (v : Bytes) → Pushes (Named F d) R n (beginning_of R) w d.size (λ S. deeper T R 96 S (def_of F d) (fields_of T (row T 0))) (refuses k t) v
         → Runs T F R n d.name (refuses k t) v
     unfolding root bind after
     root_refused k t v x =
         record {
           says = λ S e f g h.
               rw (← (at_root S e f h))
-              (go S (write (env_of T S R) 32 32 (def_of F d) (fields_of T (row T 0)) empty_state) (x.says S (known S f) empty_state [] (rw zero (rep_empty S R n room g))));
+              (go S (write (env_of T S R) 96 32 (def_of F d) (fields_of T (row T 0)) empty_state) (x.says S (known S f) empty_state [] (rw zero (rep_empty S R n room g))));
         }
       where
         go : (S : Schema) (o : Out Bytes) → Meets S R n (λ b. [] ++ b) (λ b (x : Unit {0}). length b ≡ d.size) o (refuses k t) v
@@ -97,14 +97,14 @@ module _ (T F : Bytes) (R : Round) (n : ℕ) (w : Bytes) (d : Def) where
 
     -- its item is laid, or refused
     pub root_laid : (t : Progress) (v : Bytes) (r : Ans ℕ) (u : Bytes)
-        → Pushes (Named F d) R n (beginning_of R) w d.size (λ S. deeper T R 32 S (def_of F d) (fields_of T (row T 0))) (gives (tt {0}) t) v
+        → Pushes (Named F d) R n (beginning_of R) w d.size (λ S. deeper T R 96 S (def_of F d) (fields_of T (row T 0))) (gives (tt {0}) t) v
         → Lays R n t v d.name d.size r u → Runs T F R n d.name r u
     unfolding root bind after def_of
     root_laid t v r u x y =
         record {
           says = λ S e f g h.
               rw (← (at_root S e f h))
-              (go S (write (env_of T S R) 32 32 (def_of F d) (fields_of T (row T 0)) empty_state) (x.says S (known S f) empty_state [] (rw zero (rep_empty S R n room g))));
+              (go S (write (env_of T S R) 96 32 (def_of F d) (fields_of T (row T 0)) empty_state) (x.says S (known S f) empty_state [] (rw zero (rep_empty S R n room g))));
         }
       where
         go : (S : Schema) (o : Out Bytes) → Meets S R n (λ b. [] ++ b) (λ b (x : Unit {0}). length b ≡ d.size) o (gives (tt {0}) t) v

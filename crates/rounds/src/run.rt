@@ -11,7 +11,7 @@ use area::{Area, NAMES, Progress};
 use choices::source::Source;
 use members::def_at;
 use numbers::refusal::Refusal;
-use writers::write::Writer;
+use writers::write::{DEPTHS, NESTED, Writer};
 
 impl Opening {
     // The work area before the first byte.
@@ -72,9 +72,9 @@ impl Task<'_> {
         let writer = Writer {
             sheet: self.sheet,
             schema: self.schema,
-            left: 32,
+            left: NESTED,
         };
-        writer.write_struct(area, root, Source::Row(0))?;
+        writer.write_struct(area, root, Source::Row(0), DEPTHS)?;
         area.lay(opening.name, root.size as usize)
     }
 }

@@ -188,7 +188,7 @@ fn vector_stride(n: usize) -> u32
 }
 
 // The rows as elements that lead to no structure, as x describes them; structures are left to writers.
-// Inlined in writers, its variables would stand on the machine's stack at each depth.
+// Inlined in writers, its variables would stand on the machine's stack for each structure inside another.
 #[inline(never)]
 pub fn plain_element_run(
     sheet: &[u8],

@@ -32,7 +32,7 @@ use Rattle.members.specs.Posts.{remark_on, Buffer, Went, Fills}
 use Rattle.members.proofs.Filling.{def_size, need_yes, fills_as, said, too_long}
 use Rattle.choices.proofs.Meeting.{refused_on}
 use Rattle.choices.proofs.Choosing.{looked_name}
-use Rattle.writers.specs.Posts.{Of, Named, deeper, Started, Pushes}
+use Rattle.writers.specs.Posts.{Of, Named, inner, Started, Pushes}
 
 -- the name of a definition that was looked up stands for it
 pub looked_named : (F : Bytes) (S : Schema) (ref : ℕ) (i : Def) → schema_of F ≡ ok S → (winning S).struct ref ≡ Some (def_of F i) → Named F i S
@@ -58,13 +58,13 @@ inline_some : (E : Env) (w : Writer) (d : StructDef) (e : Defs.Member) (v : Row)
 unfolding inline_member opt_m
 inline_some E w d e v buf i h = rw h refl
 
-module _ (R : Round) (n : ℕ) (p : Progress) (w : Bytes) (T F : Bytes) (left : ℕ) (d : Def) (m : coded.Member) (v : Row) where
+module _ (R : Round) (n : ℕ) (p : Progress) (w : Bytes) (T F : Bytes) (left depths : ℕ) (d : Def) (m : coded.Member) (v : Row) where
   abbrev inlined : Schema → Bytes → M Bytes
-  inlined S buf = inline_member (env_of T S R) (deeper T R left S) (def_of F d) (member_of m) v buf
+  inlined S buf = inline_member (env_of T S R) (inner T R left depths S) (def_of F d) (member_of m) v buf
 
   -- the structure's bytes put in
   abbrev put : Def → Schema → Bytes → M Bytes
-  put i S buf = bind (deeper T R left S (def_of F i) (fields_of T v)) λ bs. ret (over buf m.offset bs)
+  put i S buf = bind (inner T R left depths S (def_of F i) (fields_of T v)) λ bs. ret (over buf m.offset bs)
 
   -- there is no definition
   pub inline_missing : (r : Option Def) (q : Progress) (w' : Bytes) → Safe R n p → Open p
@@ -72,14 +72,14 @@ module _ (R : Round) (n : ℕ) (p : Progress) (w : Bytes) (T F : Bytes) (left : 
       → Notes R n p w (remark_on d m 4 m.reference) q w' → Fills (Of F) R n p w d.size inlined (gives (tt {0}) q) w'
   inline_missing r q w' h o k e t =
       fills_as R n p w (Of F) (Of F) d.size inlined (λ S buf. leaves (def_of F d) (member_of m) 4 m.reference buf) (gives (tt {0}) q) w'
-      (λ S u. (u, λ buf s. ap (λ (a : M Bytes). a s) (inline_none (env_of T S R) (deeper T R left S) (def_of F d) (member_of m) v buf (looked_none F m.reference r k e S u))))
+      (λ S u. (u, λ buf s. ap (λ (a : M Bytes). a s) (inline_none (env_of T S R) (inner T R left depths S) (def_of F d) (member_of m) v buf (looked_none F m.reference r k e S u))))
       (said R n p w (Of F) d.size F d m 4 m.reference q w' h o t)
 
   -- the definition is i
   known_as : (i : Def) → ((S : Schema) → schema_of F ≡ ok S → (winning S).struct m.reference ≡ Some (def_of F i)) → (S : Schema) → Of F S → (buf : Bytes) (s : State)
       → inlined S buf s ≡ need (def_of F d) (member_of m) i.size buf (put i S buf) s
   known_as i k S u buf s =
-      ap (λ (a : M Bytes). a s) (inline_some (env_of T S R) (deeper T R left S) (def_of F d) (member_of m) v buf (def_of F i) (k S u)
+      ap (λ (a : M Bytes). a s) (inline_some (env_of T S R) (inner T R left depths S) (def_of F d) (member_of m) v buf (def_of F i) (k S u)
       ∙ ap (λ (x : ℕ). need (def_of F d) (member_of m) x buf (put i S buf)) (def_size F i))
 
   -- it does not fit
@@ -94,7 +94,7 @@ module _ (R : Round) (n : ℕ) (p : Progress) (w : Bytes) (T F : Bytes) (left : 
   -- it fits
   fitting : (i : Def) (fs : Fields) → ((S : Schema) → schema_of F ≡ ok S → (winning S).struct m.reference ≡ Some (def_of F i)) → leb (m.offset + i.size) d.size ≡ true
       → fs ≡ fields_of T v → (S : Schema) → Of F S → (buf : Bytes) (s : State)
-      → inlined S buf s ≡ after (deeper T R left S (def_of F i) fs s) (λ bs. ret (over buf m.offset bs))
+      → inlined S buf s ≡ after (inner T R left depths S (def_of F i) fs s) (λ bs. ret (over buf m.offset bs))
   unfolding bind
   fitting i fs k f g S u buf s =
       rw g (known_as i k S u buf s ∙ ap (λ (a : M Bytes). a s) (need_yes (def_of F d) (member_of m) i.size buf (put i S buf) (rw (def_size F d) f)))
@@ -102,16 +102,16 @@ module _ (R : Round) (n : ℕ) (p : Progress) (w : Bytes) (T F : Bytes) (left : 
   -- a refusal
   pub inline_refused : (r : Option Def) (i : Def) (b : Bool) (fs : Fields) (x : Ans (Unit {0})) (k : ℕ) (t : Progress) (w' : Bytes)
       → ((S : Schema) → schema_of F ≡ ok S → (winning S).struct m.reference ≡ looked_is F r) → r ≡ Some i → b ≡ leb (m.offset + i.size) d.size → b ≡ true
-      → fs ≡ fields_of T v → Pushes (Named F i) R n p w i.size (λ S. deeper T R left S (def_of F i) fs) x w' → x ≡ refuses k t
+      → fs ≡ fields_of T v → Pushes (Named F i) R n p w i.size (λ S. inner T R left depths S (def_of F i) fs) x w' → x ≡ refuses k t
       → Fills (Of F) R n p w d.size inlined (refuses k t) w'
   inline_refused r i b fs x k t w' l e f g j a z =
-      let c : Pushes (Named F i) R n p w i.size (λ S. deeper T R left S (def_of F i) fs) (refuses k t) w' = rw (← z) a in
+      let c : Pushes (Named F i) R n p w i.size (λ S. inner T R left depths S (def_of F i) fs) (refuses k t) w' = rw (← z) a in
       let win : (S : Schema) → schema_of F ≡ ok S → (winning S).struct m.reference ≡ Some (def_of F i) = looked_at_law F m.reference r i l e in
       record {
         grew = c.grew;
         says = λ S u s σ buf q y. rw (fitting i fs win (sym f ∙ g) j S u buf s)
             (refused_on S R n (λ bs. (σ ++ buf) ++ bs) (λ bs o. length bs ≡ i.size) (λ bs. σ ++ bs) (λ bs o. length bs ≡ d.size)
-            (deeper T R left S (def_of F i) fs s) (λ bs. ret (over buf m.offset bs)) k t w' (c.says S (looked_named F S m.reference i u (win S u)) s (σ ++ buf) y));
+            (inner T R left depths S (def_of F i) fs s) (λ bs. ret (over buf m.offset bs)) k t w' (c.says S (looked_named F S m.reference i u (win S u)) s (σ ++ buf) y));
       }
 
   -- the numbers after the structure went into its parent
@@ -152,16 +152,16 @@ module _ (R : Round) (n : ℕ) (p : Progress) (w : Bytes) (T F : Bytes) (left : 
   -- its bytes are in the parent
   pub inline_done : (r : Option Def) (i : Def) (b : Bool) (fs : Fields) (x : Ans (Unit {0})) (t : Progress) (w1 w2 : Bytes) → Safe R n p → Buffer R p d.size
       → ((S : Schema) → schema_of F ≡ ok S → (winning S).struct m.reference ≡ looked_is F r) → r ≡ Some i → b ≡ leb (m.offset + i.size) d.size → b ≡ true
-      → fs ≡ fields_of T v → Pushes (Named F i) R n p w i.size (λ S. deeper T R left S (def_of F i) fs) x w1 → x ≡ gives (tt {0}) t
+      → fs ≡ fields_of T v → Pushes (Named F i) R n p w i.size (λ S. inner T R left depths S (def_of F i) fs) x w1 → x ≡ gives (tt {0}) t
       → w2 ≡ over (over w1 (p.top - d.size + m.offset) (take i.size (drop p.top w1))) p.top (zeros i.size)
       → Fills (Of F) R n p w d.size inlined (gives (tt {0}) (with_top t p.top)) w2
   inline_done r i b fs x t w1 w2 h bu l e f g j a z q =
-      let c : Pushes (Named F i) R n p w i.size (λ S. deeper T R left S (def_of F i) fs) (gives (tt {0}) t) w1 = rw (← z) a in
+      let c : Pushes (Named F i) R n p w i.size (λ S. inner T R left depths S (def_of F i) fs) (gives (tt {0}) t) w1 = rw (← z) a in
       let win : (S : Schema) → schema_of F ≡ ok S → (winning S).struct m.reference ≡ Some (def_of F i) = looked_at_law F m.reference r i l e in
       let fit : m.offset + i.size ≤ d.size = leb-true (m.offset + i.size) d.size (sym f ∙ g) in
       record {
         grew = inline_went i.size t h c.grew.0 c.grew.1;
         says = λ S u s σ buf y k. rw (fitting i fs win (sym f ∙ g) j S u buf s, q)
             (moved i t w1 (p.top - d.size + m.offset) c.grew.0 (sym c.grew.1.grown.top) fit (omega (arith, bu.low)) refl S σ buf y k.top
-            (deeper T R left S (def_of F i) fs s) (c.says S (looked_named F S m.reference i u (win S u)) s (σ ++ buf) k));
+            (inner T R left depths S (def_of F i) fs s) (c.says S (looked_named F S m.reference i u (win S u)) s (σ ++ buf) k));
       }

@@ -22,7 +22,7 @@ use Rattle.layout.specs.Kinds.{scalar, integer, vector, kind_of}
 use Rattle.layout.specs.Members as members
 use Rattle.layout.specs.Runs as runs
 use Rattle.layout.specs.Runs.{Writer, Run, element_run}
-use Rattle.layout.specs.Write.{is_struct_value, inline_member, pointed_member, struct_member, array_member, map_member, member}
+use Rattle.layout.specs.Write.{Writers, is_struct_value, inline_member, pointed_member, struct_member, array_member, map_member, member}
 use Rattle.area.specs.declared.Round.{Round}
 use Rattle.area.specs.declared.Progress.{Progress}
 use Rattle.area.specs.Area.{env_of}
@@ -34,7 +34,7 @@ use Rattle.members.specs.Posts.{any_schema, Fills}
 use Rattle.members.proofs.Filling.{def_name, fills_as}
 use Rattle.runs.specs.Posts.{Yields, plain_run}
 use Rattle.runs.proofs.Elements.{yields_as}
-use Rattle.writers.specs.Posts.{Of, Named, deeper, struct_run}
+use Rattle.writers.specs.Posts.{Of, Named, inner, below, deeper, struct_run}
 use Rattle.writers.proofs.Inlines.{looked_at_law, looked_none, looked_named}
 
 -- a kind that leads to no structure
@@ -113,7 +113,7 @@ unfolding kind_of
 kind_map x e = rw e refl
 
 -- the writers of members and of runs agree there
-member_plain : (E : Env) (w : Writer) (d : StructDef) (e : Defs.Member) (k : Kinds.Kind) (v : Value) (buf : Bytes) → Plain k → member E w d e k v buf ≡ plain_member E d e k v buf
+member_plain : (E : Env) (w : Writers) (d : StructDef) (e : Defs.Member) (k : Kinds.Kind) (v : Value) (buf : Bytes) → Plain k → member E w d e k v buf ≡ plain_member E d e k v buf
 unfolding member plain_member
 member_plain E w d e (scalar s) v buf h = refl
 member_plain E w d e Kinds.text v buf h = refl
@@ -135,31 +135,31 @@ run_leaf E w d e x Kinds.flags rs h = refl
 run_leaf E w d e x Kinds.map rs h = refl
 run_leaf E w d e x Kinds.other rs h = refl
 
-member_structure : (E : Env) (w : Writer) (d : StructDef) (e : Defs.Member) (v : Value) (buf : Bytes) → member E w d e Kinds.structure v buf ≡ struct_member E w d e v buf
+member_structure : (E : Env) (w : Writers) (d : StructDef) (e : Defs.Member) (v : Value) (buf : Bytes) → member E w d e Kinds.structure v buf ≡ struct_member E w d e v buf
 unfolding member
 member_structure E w d e v buf = refl
 
-member_array : (E : Env) (w : Writer) (d : StructDef) (e : Defs.Member) (v : Value) (buf : Bytes) → member E w d e Kinds.array v buf ≡ array_member E w d e v buf
+member_array : (E : Env) (w : Writers) (d : StructDef) (e : Defs.Member) (v : Value) (buf : Bytes) → member E w d e Kinds.array v buf ≡ array_member E w.afresh d e v buf
 unfolding member
 member_array E w d e v buf = refl
 
-member_map : (E : Env) (w : Writer) (d : StructDef) (e : Defs.Member) (v : Value) (buf : Bytes) → member E w d e Kinds.map v buf ≡ map_member E w d e v buf
+member_map : (E : Env) (w : Writers) (d : StructDef) (e : Defs.Member) (v : Value) (buf : Bytes) → member E w d e Kinds.map v buf ≡ map_member E w.afresh d e v buf
 unfolding member
 member_map E w d e v buf = refl
 
 -- a structure by its value and subtype
-struct_wrong : (E : Env) (w : Writer) (d : StructDef) (e : Defs.Member) (v : Value) (buf : Bytes) → is_struct_value E (value_row E.sheet v) ≡ false
+struct_wrong : (E : Env) (w : Writers) (d : StructDef) (e : Defs.Member) (v : Value) (buf : Bytes) → is_struct_value E (value_row E.sheet v) ≡ false
     → struct_member E w d e v buf ≡ members.wrong d e v buf
 unfolding struct_member if_m
 struct_wrong E w d e v buf h = rw h refl
 
-struct_inline : (E : Env) (w : Writer) (d : StructDef) (e : Defs.Member) (v : Value) (buf : Bytes) → is_struct_value E (value_row E.sheet v) ≡ true → eqb e.subtype 0 ≡ true
-    → struct_member E w d e v buf ≡ inline_member E w d e (value_row E.sheet v) buf
+struct_inline : (E : Env) (w : Writers) (d : StructDef) (e : Defs.Member) (v : Value) (buf : Bytes) → is_struct_value E (value_row E.sheet v) ≡ true → eqb e.subtype 0 ≡ true
+    → struct_member E w d e v buf ≡ inline_member E w.inline d e (value_row E.sheet v) buf
 unfolding struct_member if_m
 struct_inline E w d e v buf h k = rw (h, k) refl
 
-struct_pointed : (E : Env) (w : Writer) (d : StructDef) (e : Defs.Member) (v : Value) (buf : Bytes) → is_struct_value E (value_row E.sheet v) ≡ true → eqb e.subtype 0 ≡ false
-    → struct_member E w d e v buf ≡ pointed_member E w d e (value_row E.sheet v) buf
+struct_pointed : (E : Env) (w : Writers) (d : StructDef) (e : Defs.Member) (v : Value) (buf : Bytes) → is_struct_value E (value_row E.sheet v) ≡ true → eqb e.subtype 0 ≡ false
+    → struct_member E w d e v buf ≡ pointed_member E w.afresh d e (value_row E.sheet v) buf
 unfolding struct_member if_m
 struct_pointed E w d e v buf h k = rw (h, k) refl
 
@@ -179,12 +179,12 @@ run_some : (E : Env) (w : Writer) (d : StructDef) (e x : Defs.Member) (rs : List
 unfolding element_run runs.struct_run if_m opt_m
 run_some E w d e x rs i h k = rw (h, k) refl
 
-module _ (R : Round) (n : ℕ) (p : Progress) (w : Bytes) (T F : Bytes) (left : ℕ) (d : Def) (m : coded.Member) (v : Value) where
+module _ (R : Round) (n : ℕ) (p : Progress) (w : Bytes) (T F : Bytes) (left depths : ℕ) (d : Def) (m : coded.Member) (v : Value) where
   abbrev as_struct : Schema → Bytes → M Bytes
-  as_struct S buf = struct_member (env_of T S R) (deeper T R left S) (def_of F d) (member_of m) v buf
+  as_struct S buf = struct_member (env_of T S R) (below T R left depths S) (def_of F d) (member_of m) v buf
 
   abbrev as_member : Schema → Bytes → M Bytes
-  as_member S buf = member (env_of T S R) (deeper T R left S) (def_of F d) (member_of m) (kind_of m.kind) v buf
+  as_member S buf = member (env_of T S R) (below T R left depths S) (def_of F d) (member_of m) (kind_of m.kind) v buf
 
   -- a structure member
   pub structure_wrong : (u : Row) (b : Bool) (r : Ans (Unit {0})) (w' : Bytes) → u ≡ value_row T v → ((E : Env) → b ≡ is_struct_value E u) → b ≡ false
@@ -194,18 +194,18 @@ module _ (R : Round) (n : ℕ) (p : Progress) (w : Bytes) (T F : Bytes) (left : 
       (λ S k. (
         tt,
         λ buf s. ap (λ (a : M Bytes). a s)
-            (struct_wrong (env_of T S R) (deeper T R left S) (def_of F d) (member_of m) v buf (rw (← z) (sym (h (env_of T S R)) ∙ e))),
+            (struct_wrong (env_of T S R) (below T R left depths S) (def_of F d) (member_of m) v buf (rw (← z) (sym (h (env_of T S R)) ∙ e))),
       )) (a F)
 
   pub structure_inline : (u : Row) (b : Bool) (r : Ans (Unit {0})) (w' : Bytes) → u ≡ value_row T v → ((E : Env) → b ≡ is_struct_value E u) → b ≡ true → m.subtype ≡ 0
-      → Fills (Of F) R n p w d.size (λ S buf. inline_member (env_of T S R) (deeper T R left S) (def_of F d) (member_of m) (value_row T v) buf) r w'
+      → Fills (Of F) R n p w d.size (λ S buf. inline_member (env_of T S R) (inner T R left depths S) (def_of F d) (member_of m) (value_row T v) buf) r w'
       → Fills (Of F) R n p w d.size as_struct r w'
   structure_inline u b r w' z h e f a =
-      fills_as R n p w (Of F) (Of F) d.size as_struct (λ S buf. inline_member (env_of T S R) (deeper T R left S) (def_of F d) (member_of m) (value_row T v) buf) r w'
+      fills_as R n p w (Of F) (Of F) d.size as_struct (λ S buf. inline_member (env_of T S R) (inner T R left depths S) (def_of F d) (member_of m) (value_row T v) buf) r w'
       (λ S k. (
         k,
         λ buf s. ap (λ (a : M Bytes). a s)
-            (struct_inline (env_of T S R) (deeper T R left S) (def_of F d) (member_of m) v buf (rw (← z) (sym (h (env_of T S R)) ∙ e)) (eq-eqb m.subtype 0 f)),
+            (struct_inline (env_of T S R) (below T R left depths S) (def_of F d) (member_of m) v buf (rw (← z) (sym (h (env_of T S R)) ∙ e)) (eq-eqb m.subtype 0 f)),
       )) a
 
   pub structure_pointed : (u : Row) (b : Bool) (r : Ans (Unit {0})) (w' : Bytes) → u ≡ value_row T v → ((E : Env) → b ≡ is_struct_value E u) → b ≡ true → (m.subtype ≡ 0 → ⊥)
@@ -216,12 +216,12 @@ module _ (R : Round) (n : ℕ) (p : Progress) (w : Bytes) (T F : Bytes) (left : 
       (λ S k. (
         k,
         λ buf s. ap (λ (a : M Bytes). a s)
-            (struct_pointed (env_of T S R) (deeper T R left S) (def_of F d) (member_of m) v buf (rw (← z) (sym (h (env_of T S R)) ∙ e)) (ne_eqb m.subtype 0 f)),
+            (struct_pointed (env_of T S R) (below T R left depths S) (def_of F d) (member_of m) v buf (rw (← z) (sym (h (env_of T S R)) ∙ e)) (ne_eqb m.subtype 0 f)),
       )) a
 
   -- a member of a kind
   of_kind : (k : Kinds.Kind) (g : Schema → Bytes → M Bytes) (r : Ans (Unit {0})) (w' : Bytes) → kind_of m.kind ≡ k
-      → ((S : Schema) (buf : Bytes) → member (env_of T S R) (deeper T R left S) (def_of F d) (member_of m) k v buf ≡ g S buf)
+      → ((S : Schema) (buf : Bytes) → member (env_of T S R) (below T R left depths S) (def_of F d) (member_of m) k v buf ≡ g S buf)
       → Fills (Of F) R n p w d.size g r w' → Fills (Of F) R n p w d.size as_member r w'
   of_kind k g r w' e h a =
       let eq : (S : Schema) (buf : Bytes) → as_member S buf ≡ g S buf = λ S buf. rw e (h S buf) in
@@ -230,25 +230,25 @@ module _ (R : Round) (n : ℕ) (p : Progress) (w : Bytes) (T F : Bytes) (left : 
   pub member_as_structure : (r : Ans (Unit {0})) (w' : Bytes) → m.kind ≡ 12
       → Fills (Of F) R n p w d.size as_struct r w' → Fills (Of F) R n p w d.size as_member r w'
   member_as_structure r w' e a =
-      of_kind Kinds.structure as_struct r w' (kind_structure m.kind e) (λ S buf. member_structure (env_of T S R) (deeper T R left S) (def_of F d) (member_of m) v buf) a
+      of_kind Kinds.structure as_struct r w' (kind_structure m.kind e) (λ S buf. member_structure (env_of T S R) (below T R left depths S) (def_of F d) (member_of m) v buf) a
 
   pub member_as_array : (r : Ans (Unit {0})) (w' : Bytes) → m.kind ≡ 13
       → Fills (Of F) R n p w d.size (λ S buf. array_member (env_of T S R) (deeper T R left S) (def_of F d) (member_of m) v buf) r w' → Fills (Of F) R n p w d.size as_member r w'
   member_as_array r w' e a =
       of_kind Kinds.array (λ S buf. array_member (env_of T S R) (deeper T R left S) (def_of F d) (member_of m) v buf) r w' (kind_array m.kind e)
-      (λ S buf. member_array (env_of T S R) (deeper T R left S) (def_of F d) (member_of m) v buf) a
+      (λ S buf. member_array (env_of T S R) (below T R left depths S) (def_of F d) (member_of m) v buf) a
 
   pub member_as_map : (r : Ans (Unit {0})) (w' : Bytes) → m.kind ≡ 16
       → Fills (Of F) R n p w d.size (λ S buf. map_member (env_of T S R) (deeper T R left S) (def_of F d) (member_of m) v buf) r w' → Fills (Of F) R n p w d.size as_member r w'
   member_as_map r w' e a =
       of_kind Kinds.map (λ S buf. map_member (env_of T S R) (deeper T R left S) (def_of F d) (member_of m) v buf) r w' (kind_map m.kind e)
-      (λ S buf. member_map (env_of T S R) (deeper T R left S) (def_of F d) (member_of m) v buf) a
+      (λ S buf. member_map (env_of T S R) (below T R left depths S) (def_of F d) (member_of m) v buf) a
 
   pub member_as_plain : (r : Ans (Unit {0})) (w' : Bytes) → (m.kind ≡ 12 → ⊥) → (m.kind ≡ 13 → ⊥) → (m.kind ≡ 16 → ⊥)
       → Fills (Of F) R n p w d.size (λ S buf. plain_member (env_of T S R) (def_of F d) (member_of m) (kind_of m.kind) v buf) r w' → Fills (Of F) R n p w d.size as_member r w'
   member_as_plain r w' a b c h =
       of_kind (kind_of m.kind) (λ S buf. plain_member (env_of T S R) (def_of F d) (member_of m) (kind_of m.kind) v buf) r w' refl
-      (λ S buf. member_plain (env_of T S R) (deeper T R left S) (def_of F d) (member_of m) (kind_of m.kind) v buf (kind_plain m.kind a b c)) h
+      (λ S buf. member_plain (env_of T S R) (below T R left depths S) (def_of F d) (member_of m) (kind_of m.kind) v buf (kind_plain m.kind a b c)) h
 
 module _ (R : Round) (n : ℕ) (p : Progress) (w : Bytes) (T F : Bytes) (left : ℕ) (d : Def) (m x : coded.Member) (first count : ℕ) where
   abbrev as_run : Schema → M (Option Run)

@@ -3,6 +3,7 @@ use Rattle.std.specs.Prelude.{Some}
 use mathlib.Core.Path.{◌≡◌, refl, ap, subst, ◌∙◌}
 use mathlib.Core.Bool.{true, false}
 use mathlib.Core.List.{List, [], ◌∷◌, ◌++◌}
+use mathlib.Core.Logic.{◌⊎◌, inl, inr}
 use Prim.Native.Nat.{ℕ, zero, suc, ◌+◌, ◌-◌, ◌≤◌, ◌<◌}
 use native.Mathlib.Omega.{arith}
 use borrow.Author.Tests.{ne_eqb}
@@ -14,8 +15,7 @@ use Rattle.value.specs.Rows.{Value, Fields, field_named}
 use Rattle.schema.specs.Defs.{Schema, StructDef, Member}
 use Rattle.layout.specs.State.{State, Env, Out, done, stop, after, bind, ret, fail, if_m, pay, with_charge, log_start, settle, on_core, use_struct_c, use_struct}
 use Rattle.layout.specs.Kinds.{kind_of}
-use Rattle.layout.specs.Runs.{Writer}
-use Rattle.layout.specs.Write.{ARRAYINFO, member, members, started, body, write}
+use Rattle.layout.specs.Write.{ARRAYINFO, Writers, writers, member, members, started, body, write}
 use Rattle.area.specs.declared.Round.{Round}
 use Rattle.area.specs.declared.Progress.{Progress}
 use Rattle.area.specs.Area.{Rep, started_in}
@@ -31,14 +31,14 @@ drop_nth (a ∷ l) (suc i) x e =
     drop_nth l i x e ∙ ap (λ (j : ℕ). x ∷ drop j (a ∷ l)) z
 
 -- k members are written: what is left leads to the same end
-pub record Going (S : Schema) (R : Round) (n : ℕ) (E : Env) (w : Writer) (d : StructDef) (fs : Fields) (σ : Bytes) (s : State) (q : Progress) (work : Bytes) (k : ℕ) : Type 0 where
+pub record Going (S : Schema) (R : Round) (n : ℕ) (E : Env) (w : Writers) (d : StructDef) (fs : Fields) (σ : Bytes) (s : State) (q : Progress) (work : Bytes) (k : ℕ) : Type 0 where
   pub state : State
   pub buf : Bytes
   pub len : length buf ≡ d.size
   pub rep : Rep S R n state (σ ++ buf) q work
   pub rest : members E w d fs (drop k d.members) buf state ≡ members E w d fs d.members (zeros d.size) s
 
-module _ (S : Schema) (R : Round) (n : ℕ) (E : Env) (w : Writer) (d : StructDef) (fs : Fields) (σ : Bytes) (s : State) where
+module _ (S : Schema) (R : Round) (n : ℕ) (E : Env) (w : Writers) (d : StructDef) (fs : Fields) (σ : Bytes) (s : State) where
   pub begin : (q : Progress) (work : Bytes) → length (zeros d.size) ≡ d.size → Rep S R n s (σ ++ zeros d.size) q work → Going S R n E w d fs σ s q work 0
   begin q work l r = record { state = s; buf = zeros d.size; len = l; rep = r; rest = refl }
 
@@ -102,26 +102,29 @@ module _ (S : Schema) (R : Round) (n : ℕ) (E : Env) (w : Writer) (d : StructDe
       ended = rw (drop_of_length-le d.members h) refl
 
 -- the charge is paid, the definition used, and the members follow
-pub started_is : (E : Env) (w : Writer) (d : StructDef) (fs : Fields) (s : State) → leb (s.charge + (16 + d.size)) E.charge_cap ≡ true
+pub started_is : (E : Env) (w : Writers) (d : StructDef) (fs : Fields) (s : State) → leb (s.charge + (16 + d.size)) E.charge_cap ≡ true
     → started E w d fs s ≡ members E w d fs d.members (zeros d.size) (started_in d.name (with_charge (s.charge + (16 + d.size)) s))
 unfolding started bind after pay use_struct log_start on_core settle use_struct_c
 started_is E w d fs s h = rw h refl
 
 -- or it is not paid
-pub started_dear : (E : Env) (w : Writer) (d : StructDef) (fs : Fields) (s : State) → leb (s.charge + (16 + d.size)) E.charge_cap ≡ false
+pub started_dear : (E : Env) (w : Writers) (d : StructDef) (fs : Fields) (s : State) → leb (s.charge + (16 + d.size)) E.charge_cap ≡ false
     → started E w d fs s ≡ stop 9 s.events
 unfolding started bind after pay
 started_dear E w d fs s h = rw h refl
 
--- 8: at depth 33
-pub too_deep : (E : Env) (d : StructDef) (fs : Fields) (s : State) → write E 0 0 d fs s ≡ stop 8 s.events
-unfolding write fail
-too_deep E d fs s = refl
+-- 8: at depth 33; and where no more structures can start
+pub too_deep : (E : Env) (left depths : ℕ) (d : StructDef) (fs : Fields) (s : State) → (left ≡ 0) ⊎ (depths ≡ 0) → write E left depths d fs s ≡ stop 8 s.events
+unfolding write body fail if_m
+too_deep E zero depths d fs s h = refl
+too_deep E (suc k) depths d fs s (inl e) = absurd (omega (arith, e))
+too_deep E (suc k) depths d fs s (inr e) = rw e refl
 
-pub one_deeper : (E : Env) (left : ℕ) (d : StructDef) (fs : Fields) (s : State) → 0 < left → write E left left d fs s ≡ started E (write E (left - 1) (left - 1)) d fs s
+pub one_deeper : (E : Env) (left depths : ℕ) (d : StructDef) (fs : Fields) (s : State) → 0 < left → 0 < depths
+    → write E left depths d fs s ≡ started E (writers (write E (left - 1)) (depths - 1)) d fs s
 unfolding write body if_m
-one_deeper E zero d fs s h = absurd (omega arith)
-one_deeper E (suc k) d fs s h =
+one_deeper E zero depths d fs s h g = absurd (omega arith)
+one_deeper E (suc k) depths d fs s h g =
     let z : suc k - 1 ≡ k = omega arith in
-    let q : eqb (suc k) 0 ≡ false = ne_eqb (suc k) 0 (λ e. omega arith) in
+    let q : eqb depths 0 ≡ false = ne_eqb depths 0 (λ e. omega arith) in
     rw (z, q) refl

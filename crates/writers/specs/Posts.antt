@@ -8,7 +8,7 @@ use Rattle.schema.specs.Defs.{Schema, StructDef, winning}
 use Rattle.schema.specs.Psch.{schema_of}
 use Rattle.layout.specs.State.{State, Env, M}
 use Rattle.layout.specs.Runs.{Run, Writer, run, struct_element}
-use Rattle.layout.specs.Write.{pairs_of, pair_element, write}
+use Rattle.layout.specs.Write.{Writers, writers, pairs_of, pair_element, write}
 use Rattle.area.specs.declared.Round.{Round}
 use Rattle.area.specs.declared.Progress.{Progress}
 use Rattle.area.specs.Area.{Rep, env_of}
@@ -25,9 +25,17 @@ pub record Named (F : Bytes) (d : Def) (S : Schema) : Type 0 where
   pub of : schema_of F ≡ ok S
   pub winner : (winning S).struct d.name ≡ Some (def_of F d)
 
--- the writer with `left` depths left
+-- the writer of a structure with `depths` depths left, where `left` structures can start inside one another; `write` calls these left and fuel
+abbrev pub inner : Bytes → Round → ℕ → ℕ → Schema → Writer
+inner T R left depths S = write (env_of T S R) left depths
+
+-- the writer of a structure by pointer, in a run or as a map pair: it starts again at depth 1
 abbrev pub deeper : Bytes → Round → ℕ → Schema → Writer
-deeper T R left S = write (env_of T S R) left left
+deeper T R left S = inner T R left 32 S
+
+-- the writers of what members lead to
+abbrev pub below : Bytes → Round → ℕ → ℕ → Schema → Writers
+below T R left depths S = writers (write (env_of T S R) left) depths
 
 -- the numbers after a structure of `size` bytes was pushed: its 16 pay for the remarks on its members, with 15 left over
 pub record Started (p : Progress) (size : ℕ) (q : Progress) : Type 0 where

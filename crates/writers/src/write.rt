@@ -11,7 +11,7 @@ ghost use Rattle.cells.specs.Names.{def_of, member_of};
 ghost use Rattle.members.specs.Posts.{Buffer};
 ghost use Rattle.members.specs.Steps.{Fills};
 ghost use Rattle.choices.specs.Sources.{fields_is};
-ghost use Rattle.writers.specs.Posts.{Of, Named, deeper};
+ghost use Rattle.writers.specs.Posts.{Of, Named, deeper, inner, below};
 ghost use Rattle.writers.specs.Steps.{Pushes, Points};
 
 use area::Area;
@@ -34,8 +34,15 @@ use value::{read_row, value_row};
 mod map;
 mod run;
 
-// What is packed, the rows and their definitions; and how many depths are left. The area is lent to the methods and not held here:
-// the borrow checker covers no loan of a part of what a struct in a struct refers to.
+// "The 33rd inline level": a structure inline is one deeper, any other starts again with all depths.
+pub const DEPTHS: usize = 32;
+
+// The sheet's 64 levels and the depths: more than can start inside one another (docs/DECISIONS.md, 32).
+pub const NESTED: usize = 96;
+
+// What is packed, the rows and their definitions; and how many structures can start inside one another. The area is lent to the methods
+// and not held here: the borrow checker covers no loan of a part of what a struct in a struct refers to. The four methods on the way to a
+// structure inline are given how many depths are left; any other structure starts with all of them.
 #[derive(Clone, Copy)]
 pub struct Writer<'a> {
     pub sheet: &'a [u8],
@@ -46,11 +53,17 @@ pub struct Writer<'a> {
 impl Writer<'_> {
     // A structure: its bytes grow on top of the stack.
     #[cycle(write)]
-    pub fn write_struct(&self, area: &mut Area<'_>, d: Def, from: Source) -> Result<(), Refusal>
+    pub fn write_struct(
+        &self,
+        area: &mut Area<'_>,
+        d: Def,
+        from: Source,
+        depths: usize,
+    ) -> Result<(), Refusal>
         ensures { Pushes (Named self.now.schema.now d) area.old d.size
-            (λ R S. deeper self.now.sheet.now R self.now.left S (def_of self.now.schema.now d) (fields_is self.now.sheet.now from)) result area.new }
+            (λ R S. inner self.now.sheet.now R self.now.left depths S (def_of self.now.schema.now d) (fields_is self.now.sheet.now from)) result area.new }
     {
-        if self.left == 0 {
+        if self.left == 0 || depths == 0 {
             return Err(Refusal::Depth);
         }
         let size = d.size as usize;
@@ -71,23 +84,23 @@ impl Writer<'_> {
                 member,
                 value: from.value_of(self.sheet, member.name),
             };
-            below.write_member(area, &at)?;
+            below.write_member(area, &at, depths - 1)?;
         }
         Ok(())
     }
 
     // A member, by its type byte: a match on the byte, and tests of subtypes as bytes below, as document 01 has it (docs/DECISIONS.md, 18).
     #[cycle(write)]
-    fn write_member(&self, area: &mut Area<'_>, at: &Target) -> Result<(), Refusal>
+    fn write_member(&self, area: &mut Area<'_>, at: &Target, depths: usize) -> Result<(), Refusal>
         requires open { Open area.old.progress }
         requires buffer { Buffer area.old.round area.old.progress at.now.structure.size }
         ensures { Fills (Of self.now.schema.now) area.old at.now.structure.size
-            (λ R S buf. Write.member (env_of self.now.sheet.now S R) (deeper self.now.sheet.now R self.now.left S)
+            (λ R S buf. Write.member (env_of self.now.sheet.now S R) (below self.now.sheet.now R self.now.left depths S)
             (def_of self.now.schema.now at.now.structure) (member_of at.now.member) (Kinds.kind_of at.now.member.kind) at.now.value buf) result area.new }
     {
         let ty = at.member.kind;
         match ty {
-            0x0C => self.write_structure(area, at),
+            0x0C => self.write_structure(area, at, depths),
             0x0D => self.write_array(area, at),
             0x10 => self.write_map(area, at),
             _ => write_plain(self.sheet, self.schema, area, at),
@@ -96,11 +109,16 @@ impl Writer<'_> {
 
     // A structure: subtype 0 is inline, any other by pointer.
     #[cycle(write)]
-    fn write_structure(&self, area: &mut Area<'_>, at: &Target) -> Result<(), Refusal>
+    fn write_structure(
+        &self,
+        area: &mut Area<'_>,
+        at: &Target,
+        depths: usize,
+    ) -> Result<(), Refusal>
         requires open { Open area.old.progress }
         requires buffer { Buffer area.old.round area.old.progress at.now.structure.size }
         ensures { Fills (Of self.now.schema.now) area.old at.now.structure.size
-            (λ R S buf. Write.struct_member (env_of self.now.sheet.now S R) (deeper self.now.sheet.now R self.now.left S)
+            (λ R S buf. Write.struct_member (env_of self.now.sheet.now S R) (below self.now.sheet.now R self.now.left depths S)
             (def_of self.now.schema.now at.now.structure) (member_of at.now.member) at.now.value buf) result area.new }
     {
         if !is_struct_value(value_row(self.sheet, at.value)) {
@@ -108,18 +126,18 @@ impl Writer<'_> {
             return Ok(());
         }
         if at.member.subtype == 0 {
-            return self.write_inline(area, at);
+            return self.write_inline(area, at, depths);
         }
         self.write_pointed(area, at)
     }
 
     // A structure inline: it is written on top of the stack and moved into its parent.
     #[cycle(write)]
-    fn write_inline(&self, area: &mut Area<'_>, at: &Target) -> Result<(), Refusal>
+    fn write_inline(&self, area: &mut Area<'_>, at: &Target, depths: usize) -> Result<(), Refusal>
         requires open { Open area.old.progress }
         requires buffer { Buffer area.old.round area.old.progress at.now.structure.size }
         ensures { Fills (Of self.now.schema.now) area.old at.now.structure.size
-            (λ R S buf. Write.inline_member (env_of self.now.sheet.now S R) (deeper self.now.sheet.now R self.now.left S)
+            (λ R S buf. Write.inline_member (env_of self.now.sheet.now S R) (inner self.now.sheet.now R self.now.left depths S)
             (def_of self.now.schema.now at.now.structure) (member_of at.now.member)
             (Members.row_of (env_of self.now.sheet.now S R) at.now.value) buf) result area.new }
     {
@@ -134,7 +152,7 @@ impl Writer<'_> {
             return Ok(());
         }
         let base = area.progress.top;
-        self.write_struct(area, inner, Source::from(at.value))?;
+        self.write_struct(area, inner, Source::from(at.value), depths)?;
         shift(area.bytes, base, at.place(base), size);
         area.progress.top = base;
         Ok(())
@@ -185,7 +203,7 @@ impl Writer<'_> {
             at.say(area, Fault::NoStructure, reference);
             return Ok(None);
         };
-        self.write_struct(area, inner, Source::Row(r))?;
+        self.write_struct(area, inner, Source::Row(r), DEPTHS)?;
         let x = area.lay(inner.name, inner.size as usize)?;
         Ok(Some(x))
     }

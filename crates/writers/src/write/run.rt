@@ -9,7 +9,7 @@ ghost use Rattle.choices.specs.Items.{is_pairs};
 ghost use Rattle.runs.specs.Steps.{Yields};
 ghost use Rattle.writers.specs.Posts.{Of, Named, deeper, struct_run};
 
-use crate::write::Writer;
+use crate::write::{DEPTHS, Writer};
 use area::fault::Fault;
 use area::{Area, blocks};
 use cells::defs::Def;
@@ -103,7 +103,7 @@ impl Writer<'_> {
         for k in 0..rows.count {
             let r = items.row(rows, k);
             items.note(self.sheet, area, at, r);
-            self.write_struct(area, inner, items.source(self.schema, inner, r))?;
+            self.write_struct(area, inner, items.source(self.schema, inner, r), DEPTHS)?;
         }
         Ok(Some(inner.name))
     }

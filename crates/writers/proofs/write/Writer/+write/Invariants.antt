@@ -1,5 +1,5 @@
 -- The cycle of calls of the writers meets its contracts. Assumes nothing.
-use Prim.Native.Nat.{◌+◌, ◌-◌, ◌*◌, ◌≤◌}
+use Prim.Native.Nat.{◌+◌, ◌*◌, ◌≤◌}
 use Rattle.area.specs.Steps.{size, Same}
 use Rattle.choices.specs.Items.{is_pairs}
 use Rattle.choices.specs.Sources.{fields_is}
@@ -55,7 +55,7 @@ abbrev pub invariant-write_struct-loop-k : goal.invariant-write_struct-loop-k
 invariant-write_struct-loop-k l =
     let a = l.initial.area in
     Same a l.area
-    × Writing l.self.schema.now l.self.sheet.now a.round (size a) (l.self.left - 1) l.d (fields_is l.self.sheet.now l.from) a.progress a.bytes.now l.area.progress l.area.bytes.now l.k
+    × Writing l.self.schema.now l.self.sheet.now a.round (size a) l.self.left l.depths l.d (fields_is l.self.sheet.now l.from) a.progress a.bytes.now l.area.progress l.area.bytes.now l.k
 
 abbrev pub invariant-pointer_run-loop-k : goal.invariant-pointer_run-loop-k
 invariant-pointer_run-loop-k l =

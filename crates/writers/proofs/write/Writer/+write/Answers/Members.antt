@@ -19,7 +19,7 @@ write_member-returns-in-12 t c =
     let at = g.at.now in
     let F = g.self.now.schema.now in
     let T = g.self.now.sheet.now in
-    also c.write_structure.ensures (λ h. member_as_structure _ _ _ _ T F g.self.now.left at.structure at.member at.value _ _ c.in-12.is h)
+    also c.write_structure.ensures (λ h. member_as_structure _ _ _ _ T F g.self.now.left g.depths at.structure at.member at.value _ _ c.in-12.is h)
 
 pub write_member-returns-in-13 : goal.write_member-returns-in-13
 write_member-returns-in-13 t c =
@@ -27,7 +27,7 @@ write_member-returns-in-13 t c =
     let at = g.at.now in
     let F = g.self.now.schema.now in
     let T = g.self.now.sheet.now in
-    also c.write_array.ensures (λ h. member_as_array _ _ _ _ T F g.self.now.left at.structure at.member at.value _ _ c.in-13.is h)
+    also c.write_array.ensures (λ h. member_as_array _ _ _ _ T F g.self.now.left g.depths at.structure at.member at.value _ _ c.in-13.is h)
 
 pub write_member-returns-in-16 : goal.write_member-returns-in-16
 write_member-returns-in-16 t c =
@@ -35,7 +35,7 @@ write_member-returns-in-16 t c =
     let at = g.at.now in
     let F = g.self.now.schema.now in
     let T = g.self.now.sheet.now in
-    also c.write_map.ensures (λ h. member_as_map _ _ _ _ T F g.self.now.left at.structure at.member at.value _ _ c.in-16.is h)
+    also c.write_map.ensures (λ h. member_as_map _ _ _ _ T F g.self.now.left g.depths at.structure at.member at.value _ _ c.in-16.is h)
 
 pub write_member-returns-in_default : goal.write_member-returns-in_default
 write_member-returns-in_default t c =
@@ -43,7 +43,7 @@ write_member-returns-in_default t c =
     let at = g.at.now in
     let F = g.self.now.schema.now in
     let T = g.self.now.sheet.now in
-    also c.write_plain.ensures (λ h. member_as_plain _ _ _ _ T F g.self.now.left at.structure at.member at.value _ _ (omega arith) (omega arith) (omega arith) h)
+    also c.write_plain.ensures (λ h. member_as_plain _ _ _ _ T F g.self.now.left g.depths at.structure at.member at.value _ _ (omega arith) (omega arith) (omega arith) h)
 
 -- `write_structure`.
 
@@ -55,7 +55,7 @@ write_structure-returns-then-not-is_struct_value t c =
     let T = g.self.now.sheet.now in
     record {
       same = (c.wrong.ensures.fills F).same;
-      did = structure_wrong _ _ _ _ T F g.self.now.left at.structure at.member at.value _ _ _ _ c.value_row.ensures c.is_struct_value.ensures c.if-not-is_struct_value.true (λ F. (c.wrong.ensures.fills F).did);
+      did = structure_wrong _ _ _ _ T F g.self.now.left g.depths at.structure at.member at.value _ _ _ _ c.value_row.ensures c.is_struct_value.ensures c.if-not-is_struct_value.true (λ F. (c.wrong.ensures.fills F).did);
     }
 
 pub write_structure-returns-then-at-eq0 : goal.write_structure-returns-then-at-eq0
@@ -64,7 +64,7 @@ write_structure-returns-then-at-eq0 t c =
     let at = g.at.now in
     let F = g.self.now.schema.now in
     let T = g.self.now.sheet.now in
-    also c.write_inline.ensures (λ h. structure_inline _ _ _ _ T F g.self.now.left at.structure at.member at.value _ _ _ _ c.value_row.ensures c.is_struct_value.ensures c.if-not-is_struct_value.false c.if-at-eq0.true h)
+    also c.write_inline.ensures (λ h. structure_inline _ _ _ _ T F g.self.now.left g.depths at.structure at.member at.value _ _ _ _ c.value_row.ensures c.is_struct_value.ensures c.if-not-is_struct_value.false c.if-at-eq0.true h)
 
 pub write_structure-returns : goal.write_structure-returns
 write_structure-returns t c =
@@ -72,7 +72,7 @@ write_structure-returns t c =
     let at = g.at.now in
     let F = g.self.now.schema.now in
     let T = g.self.now.sheet.now in
-    also c.write_pointed.ensures (λ h. structure_pointed _ _ _ _ T F g.self.now.left at.structure at.member at.value _ _ _ _ c.value_row.ensures c.is_struct_value.ensures c.if-not-is_struct_value.false c.if-at-eq0.false h)
+    also c.write_pointed.ensures (λ h. structure_pointed _ _ _ _ T F g.self.now.left g.depths at.structure at.member at.value _ _ _ _ c.value_row.ensures c.is_struct_value.ensures c.if-not-is_struct_value.false c.if-at-eq0.false h)
 
 -- `write_inline`.
 
@@ -83,7 +83,7 @@ write_inline-returns-in_default t c =
     let at = g.at.now in
     let F = g.self.now.schema.now in
     let T = g.self.now.sheet.now in
-    also_ok c.say.ensures (λ h. inline_missing a.round (length a.bytes.now) a.progress a.bytes.now T F g.self.now.left at.structure at.member _ _ _ _ a.safe c.requires.open c.look_up.ensures.name_value c.in_default.is h)
+    also_ok c.say.ensures (λ h. inline_missing a.round (length a.bytes.now) a.progress a.bytes.now T F g.self.now.left g.depths at.structure at.member _ _ _ _ a.safe c.requires.open c.look_up.ensures.name_value c.in_default.is h)
 
 pub write_inline-returns-then-not-fits : goal.write_inline-returns-then-not-fits
 write_inline-returns-then-not-fits t c =
@@ -92,7 +92,7 @@ write_inline-returns-then-not-fits t c =
     let at = g.at.now in
     let F = g.self.now.schema.now in
     let T = g.self.now.sheet.now in
-    also_ok c.too_small.ensures (λ h. inline_long a.round (length a.bytes.now) a.progress a.bytes.now T F g.self.now.left at.structure at.member _ _ c.in-Some.inner _ _ _ a.safe c.requires.open c.look_up.ensures.name_value c.in-Some.is c.fits.ensures c.if-not-fits.true h)
+    also_ok c.too_small.ensures (λ h. inline_long a.round (length a.bytes.now) a.progress a.bytes.now T F g.self.now.left g.depths at.structure at.member _ _ c.in-Some.inner _ _ _ a.safe c.requires.open c.look_up.ensures.name_value c.in-Some.is c.fits.ensures c.if-not-fits.true h)
 
 pub write_inline-returns-in_err-write_struct : goal.write_inline-returns-in_err-write_struct
 write_inline-returns-in_err-write_struct t c =
@@ -106,7 +106,7 @@ write_inline-returns-in_err-write_struct t c =
     rw (x.1, x.2)
     record {
       same = e.same;
-      did = inline_refused a.round (length a.bytes.now) a.progress a.bytes.now T F g.self.now.left at.structure at.member _ _ c.in-Some.inner _ _ _ _ _ _ c.look_up.ensures.name_value c.in-Some.is c.fits.ensures c.if-not-fits.false (c.from.ensures T) e.did refl;
+      did = inline_refused a.round (length a.bytes.now) a.progress a.bytes.now T F g.self.now.left g.depths at.structure at.member _ _ c.in-Some.inner _ _ _ _ _ _ c.look_up.ensures.name_value c.in-Some.is c.fits.ensures c.if-not-fits.false (c.from.ensures T) e.did refl;
     }
 
 pub write_inline-returns : goal.write_inline-returns
@@ -120,7 +120,7 @@ write_inline-returns t c =
     let b = c.write_struct.new.area in
     record {
       same = record { bytes = e.same.bytes; size = search (rules, e.same.size); round = e.same.round };
-      did = inline_done a.round (length a.bytes.now) a.progress a.bytes.now T F g.self.now.left at.structure at.member _ _ c.in-Some.inner _ _ _ b.progress b.bytes.now _ a.safe c.requires.buffer c.look_up.ensures.name_value c.in-Some.is c.fits.ensures c.if-not-fits.false (c.from.ensures T) e.did refl (rw c.place.ensures at c.shift.ensures);
+      did = inline_done a.round (length a.bytes.now) a.progress a.bytes.now T F g.self.now.left g.depths at.structure at.member _ _ c.in-Some.inner _ _ _ b.progress b.bytes.now _ a.safe c.requires.buffer c.look_up.ensures.name_value c.in-Some.is c.fits.ensures c.if-not-fits.false (c.from.ensures T) e.did refl (rw c.place.ensures at c.shift.ensures);
     }
 
 -- `write_pointed`.
