@@ -1,4 +1,4 @@
--- Worked cases, closed by evaluation. Made, Laws, Read and Texts are written by
+-- Worked cases, closed by evaluation. Made, Laws, Read, Roads, RoadLaws and Texts are written by
 -- `differential/run record cases 4242 crates/cases/specs`, then `rt tidy`.
 pub mod Check
 pub mod Records
@@ -30,3 +30,5 @@ pub mod Read00
 pub mod Read01
 pub mod Read02
 pub mod Read03
+pub mod Roads00
+pub mod RoadLaws00
