@@ -7,6 +7,7 @@ use crate::model::reader::{self, Reading};
 use crate::model::schema::Schema;
 use crate::model::state::Remark;
 use crate::model::{build, Outcome, Pack, GENEROUS};
+use crate::roads::{self, Road};
 use crate::select::{choose, Choice, Shown};
 use crate::stats::Stats;
 use std::fmt::Write;
@@ -167,13 +168,30 @@ fn choose_reads(seed: u64, count: usize) -> Vec<String> {
     out
 }
 
+/// Chains past 32 structures, and demand 3 on those that are built.
+fn roads(dir: &Path, modules: &mut Vec<String>) -> io::Result<()> {
+    let (built, others) = (roads::built(), roads::others());
+    let answer = |(n, r): (usize, &Road)| format!("-- {}\n{}", r.what, made(n, &r.case, &build(&r.case.sheet, &r.case.schema, &r.case.limits)));
+    let made: Vec<String> = built.iter().chain(&others).enumerate().map(answer).collect();
+    write_files(dir, "Roads", "Roads", PER_MADE, &made, modules)?;
+    let law = |(n, r): (usize, &Road)| {
+        let pack = r.generous.answer.as_ref().expect("built");
+        let again = build(&r.case.sheet, &pack.file, &GENEROUS).answer.expect("held against the reference");
+        format!("-- {}\n{}", r.what, laws(n, &r.case, pack, &again))
+    };
+    let laws: Vec<String> = built.iter().enumerate().map(law).collect();
+    write_files(dir, "RoadLaws", "Demand 3 on roads", PER_LAWS, &laws, modules)?;
+    println!("{} roads, {} of demand 3", made.len(), laws.len());
+    Ok(())
+}
+
 /// Writes the files into the folder `specs` of the crate, and the crate's list of modules.
 pub fn cases(seed: u64, builds: usize, laws: usize, reads: usize, dir: &str) -> io::Result<()> {
     let dir = Path::new(dir);
     for f in fs::read_dir(dir)? {
         let path = f?.path();
         let name = path.file_name().unwrap().to_string_lossy().to_string();
-        if ["Made", "Laws", "Read"].iter().any(|p| name.starts_with(p) && name[p.len()..].starts_with(|c: char| c.is_ascii_digit())) {
+        if ["Made", "Laws", "Read", "Roads", "RoadLaws"].iter().any(|p| name.starts_with(p) && name[p.len()..].starts_with(|c: char| c.is_ascii_digit())) {
             fs::remove_file(path)?;
         }
     }
@@ -195,7 +213,8 @@ pub fn cases(seed: u64, builds: usize, laws: usize, reads: usize, dir: &str) -> 
     let reads = choose_reads(seed + 2, reads);
     write_files(dir, "Read", "Files for the reader", PER_READ, &reads, &mut modules)?;
     println!("{} of demand 3, {} files for the reader", laws.len(), reads.len());
+    roads(dir, &mut modules)?;
     fs::write(dir.join("Texts.antt"), crate::antt_texts::texts(seed + 3))?;
     let list: String = modules.iter().map(|m| format!("pub mod {m}\n")).collect();
-    fs::write(dir.join("Lib.antt"), format!("-- Worked cases, closed by evaluation. Made, Laws, Read and Texts are written by\n-- `differential/run record cases {seed} crates/cases/specs`, then `rt tidy`.\n{list}"))
+    fs::write(dir.join("Lib.antt"), format!("-- Worked cases, closed by evaluation. Made, Laws, Read, Roads, RoadLaws and Texts are written by\n-- `differential/run record cases {seed} crates/cases/specs`, then `rt tidy`.\n{list}"))
 }

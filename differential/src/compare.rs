@@ -64,7 +64,7 @@ fn against_reference(case: &Case, outcome: &Outcome, stats: &mut Stats) -> Resul
     if code == 1 || code == 2 {
         return Ok(());
     }
-    stats.compared += 1;
+    stats.compared += u64::from(code < 8);
     if code == 3 {
         let tree = reference::tree(&case.sheet);
         return match reference::build(&tree, &Default::default()) {

@@ -1,4 +1,4 @@
-//! Holds the packer and the reader against the reference and against a model of document 01.
+//! Holds the packer and the reader against the reference and against a model of document 01 with request 2.1.
 mod antt;
 mod antt_texts;
 mod bench;
@@ -11,6 +11,7 @@ mod model;
 mod record;
 mod reference_side;
 mod rng;
+mod roads;
 mod scene;
 mod select;
 mod shrink;

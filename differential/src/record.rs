@@ -3,6 +3,7 @@ use crate::commands::{case_of, file_of};
 use crate::compare::{check, read_file};
 use crate::gen::{Case, Size};
 use crate::model::{build, Outcome};
+use crate::roads;
 use crate::select::{choose, Choice};
 use crate::stats::Stats;
 use std::fs;
@@ -66,7 +67,7 @@ impl Recorded {
     }
 }
 
-/// `stdin` and `stdout` of the program: COUNT cases chosen for what they show, four of refusal 10, a third as many files.
+/// `stdin` and `stdout` of the program: COUNT cases chosen for what they show, four of refusal 10, a third as many files, roads.
 pub fn vectors(seed: u64, count: usize, dir: &str) -> io::Result<()> {
     let mut all = Recorded { input: Vec::new(), lines: String::new(), count: 0 };
     let mut codes = [0; 19];
@@ -77,6 +78,9 @@ pub fn vectors(seed: u64, count: usize, dir: &str) -> io::Result<()> {
     }
     println!("{} cases, by code {codes:?}", all.count);
     files(seed, count / 3, &mut all);
+    for road in roads::built().iter().chain(&roads::others()) {
+        all.build(&road.case, &build(&road.case.sheet, &road.case.schema, &road.case.limits));
+    }
     println!("{} cases and files, {} bytes", all.count, all.input.len());
     fs::create_dir_all(dir)?;
     fs::write(Path::new(dir).join("stdin"), &all.input)?;

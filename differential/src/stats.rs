@@ -1,6 +1,7 @@
 //! Counts, and how they are printed.
 use crate::branch::{ways, Hits, CASES, PLACES, WAYS};
 use crate::gen::FAMILIES;
+use crate::model::nest::{Chain, CHAIN_WAYS};
 use crate::model::sheet::KINDS;
 use crate::model::Outcome;
 use std::collections::BTreeMap;
@@ -12,6 +13,43 @@ pub struct Explained {
     pub smallest: Option<(usize, String)>,
 }
 
+/// Packs with more than 32 structures in one another: of 33 to 64 and of more, the longest, by each way in it, by one way alone.
+#[derive(Default)]
+pub struct Chains {
+    to_64: u64,
+    more: u64,
+    longest: usize,
+    with: [u64; CHAIN_WAYS.len()],
+    alone: [u64; CHAIN_WAYS.len()],
+    /// Packs with 32 structures inline in one another.
+    inline: u64,
+}
+
+impl Chains {
+    fn add(&mut self, chain: &Chain) {
+        self.inline += u64::from(chain.depth == 32);
+        if chain.structures <= 32 {
+            return;
+        }
+        *(if chain.structures <= 64 { &mut self.to_64 } else { &mut self.more }) += 1;
+        self.longest = self.longest.max(chain.structures);
+        for k in (0..CHAIN_WAYS.len()).filter(|k| chain.ways >> k & 1 == 1) {
+            self.with[k] += 1;
+            self.alone[k] += u64::from(chain.ways == 1 << k);
+        }
+    }
+
+    fn print(&self) {
+        let list = |counts: &[u64]| {
+            let named = CHAIN_WAYS.iter().zip(counts).filter(|(_, n)| **n > 0);
+            named.map(|(way, n)| format!("{way} {n}")).collect::<Vec<_>>().join(", ")
+        };
+        println!("chains past 32        {} packs, {} of them to 64; the longest {}", self.to_64 + self.more, self.to_64, self.longest);
+        println!("  with                {}; by one way alone: {}", list(&self.with), list(&self.alone));
+        println!("inline to depth 32    {} packs", self.inline);
+    }
+}
+
 pub struct Stats {
     pub cases: u64,
     pub families: Vec<u64>,
@@ -19,6 +57,7 @@ pub struct Stats {
     pub generous: [u64; 19],
     pub limited: [u64; 19],
     pub remarks: [u64; 14],
+    /// Those in the reference's domain.
     pub compared: u64,
     pub tested: u64,
     pub demand3: u64,
@@ -27,6 +66,7 @@ pub struct Stats {
     pub files: [u64; 19],
     pub files_tested: u64,
     pub texts: u64,
+    pub chains: Chains,
     pub explained: BTreeMap<String, Explained>,
     pub hits: Hits,
 }
@@ -53,6 +93,7 @@ impl Stats {
             files: [0; 19],
             files_tested: 0,
             texts: 0,
+            chains: Chains::default(),
             explained: BTreeMap::new(),
             hits: Hits::new(),
         }
@@ -63,6 +104,7 @@ impl Stats {
         self.limited[limited.code() as usize] += 1;
         self.hits.add(&generous.hits);
         if let Ok(p) = &generous.answer {
+            self.chains.add(&generous.chain);
             for r in &p.remarks {
                 self.remarks[r.kind as usize] += 1;
             }
@@ -91,13 +133,14 @@ impl Stats {
         println!("cases                 {}", self.cases);
         println!("with generous limits  {}", codes(&self.generous));
         println!("with their limits     {}", codes(&self.limited));
-        println!("model and reference   {} compared", self.compared);
+        println!("model and reference   {} compared: none of 1, 2, 8 to 14", self.compared);
         println!("library               {} compared", self.tested);
         println!("read, tiled, rebuilt  {}", self.demand3);
         println!("pointers put          {}, of which {} stand in the pack", self.slots, self.pointing);
         println!("float texts           {} held against the parse of std", self.texts);
         let remarks: Vec<String> = (1..14).map(|k| format!("{k}: {}", self.remarks[k])).collect();
         println!("remarks by kind       {}", remarks.join(", "));
+        self.chains.print();
         let families: Vec<String> = FAMILIES.iter().zip(&self.families).map(|(f, n)| format!("{} {n}", f.name)).collect();
         println!("families              {}", families.join(", "));
         if branches {

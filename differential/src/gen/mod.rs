@@ -6,6 +6,7 @@ pub mod files;
 pub mod heavy;
 pub mod limits;
 pub mod plan;
+pub mod road;
 pub mod schema;
 pub mod text;
 pub mod tree;
@@ -49,10 +50,11 @@ const fn family(name: &'static str, weight: usize, size: Size, make: fn(&mut Rng
     Family { name, weight, size, make }
 }
 
-pub const FAMILIES: [Family; 20] = [
+pub const FAMILIES: [Family; 21] = [
     family("general", 58_000, Size::Tiny, general),
     family("scalars and texts", 10_000, Size::Tiny, scalars),
     family("chains of structures", 5_000, Size::Tiny, chain::chain),
+    family("roads", 3_000, Size::Full, road::road),
     family("levels of the sheet", 800, Size::Small, chain::levels),
     family("damaged sheet", 5_000, Size::Tiny, damaged_sheet),
     family("edges of rows", 6_000, Size::Tiny, edges::row_edges),

@@ -1,5 +1,6 @@
 //! Members that lead to further structures: structures, arrays, maps.
 use super::buffer::{Buffer, Laid};
+use super::nest::Reached;
 use super::schema::Member;
 use super::sheet::{ARRAY, MAP, NULL, STR, STRUCT};
 use super::text;
@@ -29,7 +30,7 @@ impl<'a> Writer<'a> {
             if !self.fits(at, case, inner.size as usize)? {
                 return Ok(());
             }
-            let made = self.structure(inner, &self.fields_of(at.value), at.from(), at.depth + 1)?;
+            let made = self.structure(inner, &self.fields_of(at.value), at.from(), Reached::Inline(at.depth))?;
             self.state.hits.hit(case, Way::Written);
             buf.place(off, &made);
             return Ok(());
@@ -37,7 +38,7 @@ impl<'a> Writer<'a> {
         if !self.fits(at, case, 8)? {
             return Ok(());
         }
-        let laid = if row.kind == STRUCT { self.pointed(at, case, m.reference, at.from())? } else { None };
+        let laid = if row.kind == STRUCT { self.pointed(at, case, m.reference, at.from(), Reached::Pointer)? } else { None };
         self.put(buf, off, laid, at.from());
         Ok(())
     }
@@ -51,7 +52,7 @@ impl<'a> Writer<'a> {
     }
 
     /// A structure by pointer: the row's own type where the schema has it, else the reference; or remark 4.
-    pub fn pointed(&mut self, at: At<'a>, case: Case, reference: u32, from: From) -> Result<Option<Laid>, u32> {
+    pub fn pointed(&mut self, at: At<'a>, case: Case, reference: u32, from: From, reached: Reached) -> Result<Option<Laid>, u32> {
         let own_type = self.row(from.row).a;
         let own = self.defined(own_type).is_some();
         let name = if own { own_type } else { reference };
@@ -66,7 +67,7 @@ impl<'a> Writer<'a> {
             return Ok(None);
         };
         self.state.hits.hit(case, if own { Way::OwnType } else { Way::ByReference });
-        let made = self.structure(def, &self.fields_of(from.row), from, at.depth + 1)?;
+        let made = self.structure(def, &self.fields_of(from.row), from, reached)?;
         self.state.lay(def.name, made, from).map(Some)
     }
 

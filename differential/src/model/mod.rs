@@ -1,10 +1,11 @@
-//! Document 01, written a second time: the exact answer for every input.
+//! Document 01 with request 2.1, written a second time: the exact answer for every input.
 pub mod assemble;
 pub mod buffer;
 pub mod cells;
 pub mod coerce;
 pub mod compound;
 pub mod effort;
+pub mod nest;
 pub mod number;
 pub mod reader;
 pub mod run;
@@ -16,6 +17,7 @@ pub mod trace;
 pub mod write;
 
 use crate::branch::Hits;
+use nest::{Chain, Reached};
 use schema::Schema;
 use sheet::Sheet;
 use state::{Block, Item, Remark, State, GAVE_UP};
@@ -55,6 +57,8 @@ pub struct Outcome {
     pub charge: u64,
     pub remarks: usize,
     pub index_entries: Option<usize>,
+    /// The longest chain of structures.
+    pub chain: Chain,
 }
 
 impl Outcome {
@@ -63,7 +67,7 @@ impl Outcome {
     }
 
     fn early(number: u32, index_entries: Option<usize>) -> Outcome {
-        Outcome { answer: Err(number), hits: Hits::new(), charge: 0, remarks: 0, index_entries }
+        Outcome { answer: Err(number), hits: Hits::new(), charge: 0, remarks: 0, index_entries, chain: Chain::default() }
     }
 }
 
@@ -82,7 +86,7 @@ pub fn build(sheet: &[u8], schema: &[u8], limits: &Limits) -> Outcome {
         Ok(f) => f,
         Err(n) => return Outcome::early(n, Some(entries)),
     };
-    let (charge, remarks) = (state.charge, state.remarks.len());
+    let (charge, remarks, chain) = (state.charge, state.remarks.len(), state.nest.longest);
     let answer = answer.map(|file| Pack {
         file,
         remarks: state.remarks,
@@ -92,7 +96,7 @@ pub fn build(sheet: &[u8], schema: &[u8], limits: &Limits) -> Outcome {
         enums: state.enums.names,
         charge,
     });
-    Outcome { answer, hits: state.hits, charge, remarks, index_entries: Some(entries) }
+    Outcome { answer, hits: state.hits, charge, remarks, index_entries: Some(entries), chain }
 }
 
 /// How a layout is followed: whether refusals 8, 10 and 11 are passed over, and after how many steps it is given up.
@@ -119,7 +123,7 @@ pub fn follow(sheet: &Sheet, schema: &Schema, limits: &Limits, pace: &Pace) -> R
     let mut state = State::new(cap, limits.records, Trace::of(sheet));
     (state.free, state.steps) = (pace.free, pace.steps);
     let mut w = Writer { sheet, schema, state };
-    let made = w.structure(def, &Fields::Children(0), From::ROOT, 1);
+    let made = w.structure(def, &Fields::Children(0), From::ROOT, Reached::Root);
     let laid = made.and_then(|made| w.state.lay(def.name, made, From::ROOT));
     let mut state = w.state;
     if laid.is_ok() {

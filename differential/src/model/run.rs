@@ -1,6 +1,7 @@
 //! Runs: the elements of an array, the pairs of a map.
 use super::buffer::Buffer;
 use super::coerce::Fit;
+use super::nest::Reached;
 use super::schema::{Member, Structure};
 use super::sheet::{NULL, STRUCT};
 use super::trace::{From, Note};
@@ -94,7 +95,7 @@ impl<'a> Writer<'a> {
             let mut slot = Buffer::zeros(8);
             let mut laid = None;
             if kind == STRUCT {
-                laid = self.pointed(at, case, reference, from)?;
+                laid = self.pointed(at, case, reference, from, Reached::PointerRun)?;
             } else {
                 self.state.hits.hit(case, Way::NotStruct);
                 if kind != NULL {
@@ -117,6 +118,7 @@ impl<'a> Writer<'a> {
             return self.stop(at, case, Way::NoDef, 8, reference);
         };
         let mut run = self.begin(at, case, def.size as usize, items.len())?;
+        let reached = if at.member.subtype == 0 { Reached::Run } else { Reached::Embedded };
         for r in items {
             let from = self.element(at, r)?;
             let kind = self.sheet.rows[r].kind;
@@ -129,7 +131,7 @@ impl<'a> Writer<'a> {
                     self.remark_at(at, Some(r), 9, 0)?;
                 }
             }
-            let made = self.structure(def, &self.fields_of(Some(r)), from, at.depth + 1)?;
+            let made = self.structure(def, &self.fields_of(Some(r)), from, reached)?;
             run.append(&made);
         }
         Ok(Some((def.name, run)))
@@ -236,7 +238,7 @@ impl<'a> Writer<'a> {
         for key in rows.step_by(2) {
             let from = self.element(at, key)?;
             let fields = Fields::Pair(names.iter().copied().zip([key, key + 1]).collect());
-            let made = self.structure(pair, &fields, from, at.depth + 1)?;
+            let made = self.structure(pair, &fields, from, Reached::Pair)?;
             run.append(&made);
             self.state.trace.note_pair(key..key + 2, pair.name);
         }

@@ -1,6 +1,7 @@
 //! What grows while a pack is laid: charge, blocks, items, uses, remarks.
 use super::buffer::{Buffer, Laid, Slot};
 use super::effort::Effort;
+use super::nest::Nest;
 use super::trace::{add_row, From, Stop, Trace, Why};
 use crate::branch::{Case, Hits, Way};
 use std::collections::{HashMap, HashSet};
@@ -69,6 +70,7 @@ pub struct State {
     pub free: bool,
     pub steps: u64,
     pub effort: Effort,
+    pub nest: Nest,
     /// 14 was met; the library lays the rest all the same.
     pub full: bool,
     pub remarks: Vec<Remark>,
@@ -96,6 +98,7 @@ impl State {
             free: false,
             steps: u64::MAX,
             effort: Effort::default(),
+            nest: Nest::default(),
             full: false,
             remarks: Vec::new(),
             rows: Vec::new(),

@@ -1,6 +1,7 @@
 //! A structure and the choice among its members; remarks.
 use super::buffer::Buffer;
 use super::coerce::Fit;
+use super::nest::Reached;
 use super::schema::{Member, Schema, Structure};
 use super::sheet::{Row, Sheet, NULL, STRUCT};
 use super::state::{Remark, State};
@@ -106,7 +107,8 @@ pub fn named_size(subtype: u8) -> usize {
 
 impl<'a> Writer<'a> {
     /// 8, then 9, then the structure is used and its members are written in order.
-    pub fn structure(&mut self, def: &'a Structure, fields: &Fields, from: From, depth: u32) -> Result<Buffer, u32> {
+    pub fn structure(&mut self, def: &'a Structure, fields: &Fields, from: From, reached: Reached) -> Result<Buffer, u32> {
+        let depth = reached.depth();
         if depth > MAX_DEPTH {
             self.state.refuse(8, from, Why::Depth { structure: def.name })?;
             self.state.pay(16 + def.size as u64, from)?;
@@ -119,11 +121,13 @@ impl<'a> Writer<'a> {
         if let Fields::Children(row) = fields {
             self.state.trace.open(*row, def.name);
         }
+        self.state.nest.enter(reached);
         let mut buf = Buffer::zeros(def.size as usize);
         for member in def.members.iter().filter(|m| m.name != ARRAYINFO) {
             let value = self.field(fields, member.name);
             self.member(At { def, member, value, depth }, &mut buf)?;
         }
+        self.state.nest.leave();
         Ok(buf)
     }
 
