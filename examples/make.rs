@@ -22,7 +22,7 @@ enum Value {
 }
 use Value::*;
 
-/// The names that were used.
+/// The names that the scene uses.
 static NAMES: Mutex<BTreeSet<String>> = Mutex::new(BTreeSet::new());
 
 /// Jenkins one-at-a-time: the number that stands for a name.
@@ -231,15 +231,47 @@ fn hall() -> (Vec<u8>, Vec<u8>) {
     (sheet(&Struct(name("Hall"), members)), schema(&definitions))
 }
 
+/// The segments of the road.
+const SEGMENTS: u32 = 40;
+
+/// A segment of the road with all that follow it: each points to the next one.
+fn segment(number: u32) -> Value {
+    let mut members = vec![
+        (name("id"), Hash(name(&format!("segment_{number:02}")))),
+        (name("length"), F32(if number % 5 == 0 { 12.5 } else { 25.0 })),
+    ];
+    if number < SEGMENTS {
+        members.push((name("next"), segment(number + 1)));
+    }
+    Struct(name("Segment"), members)
+}
+
+/// A road: its first segment leads to the others. By pointer a structure is no deeper than the one before.
+fn road() -> (Vec<u8>, Vec<u8>) {
+    let road = vec![(name("id"), 0x0B, 7, 0, 0), (name("first"), 0x0C, 3, 8, name("Segment"))];
+    let segments =
+        vec![(name("id"), 0x0B, 7, 0, 0), (name("length"), 0x07, 0, 4, 0), (name("next"), 0x0C, 3, 8, name("Segment"))];
+    let definitions =
+        [Definition::Structure(name("Road"), 16, road), Definition::Structure(name("Segment"), 16, segments)];
+    let members = vec![(name("id"), Hash(name("north_road"))), (name("first"), segment(1))];
+    (sheet(&Struct(name("Road"), members)), schema(&definitions))
+}
+
 fn main() -> io::Result<()> {
     let target = env::args().nth(1).unwrap_or_else(|| "examples".into());
-    for (scene, (sheet, schema)) in [("case1", case1()), ("hall", hall())] {
+    let scenes: [(&str, fn() -> (Vec<u8>, Vec<u8>)); 3] = [("case1", case1), ("hall", hall), ("road", road)];
+    for (scene, make) in scenes {
         let folder = Path::new(&target).join(scene);
         fs::create_dir_all(&folder)?;
+        let (sheet, schema) = make();
         fs::write(folder.join(format!("{scene}.sheet")), sheet)?;
         fs::write(folder.join(format!("{scene}.schema")), schema)?;
+        // The numbers of case 1 are not made from names.
+        let names = std::mem::take(&mut *NAMES.lock().unwrap());
+        if !names.is_empty() {
+            let lines: String = names.iter().map(|n| format!("{n}\n")).collect();
+            fs::write(folder.join(format!("{scene}.names")), lines)?;
+        }
     }
-    // Only the hall's numbers are made from names.
-    let names: String = NAMES.lock().unwrap().iter().map(|n| format!("{n}\n")).collect();
-    fs::write(Path::new(&target).join("hall/hall.names"), names)
+    Ok(())
 }

@@ -10,8 +10,8 @@
  * several threads at once, on the same inputs too, as long as each call has its own work, out and remarks and nobody
  * writes to what a call was passed before it returns.
  *
- * Stack: a thread with a stack of 131,072 bytes can make every call, whatever the input. The deepest, with structures
- * in arrays down to depth 32, takes about 35,000 of them, measured on x86-64 Linux; the rest is margin, and for what
+ * Stack: a thread with a stack of 131,072 bytes can make every call, whatever the input. The deepest, with 95
+ * structures inside one another, takes about 72,000 of them, measured on x86-64 Linux; the rest is margin, and for what
  * the thread itself needs. The functions other than sandvurek_build take some 200. */
 #ifndef SANDVUREK_H
 #define SANDVUREK_H
@@ -32,7 +32,8 @@ extern "C" {
  *    5  a head, index, definition or member lies outside its PSCH section
  *    6  a definition's top byte is neither 0 nor 1
  *    7  the root type has no definition
- *    8  a structure would start at depth 33
+ *    8  a structure would start at depth 33, inline in 32 others: one inline in another is one deeper than the other;
+ *       the root, and a structure by pointer, in a run or as a map's pair, has depth 1
  *    9  the charge would pass its cap
  *   10  an item's block number would be above 4,095, or its start above 0xFFFFF
  *   11  a text that would have to be read as a floating-point number

@@ -45,7 +45,7 @@ pub fn refusal(code: u32) -> &'static str {
         5 => "the head, the index, a definition's header or a member lies outside its PSCH section",
         6 => "a definition's top byte is neither 0 nor 1",
         7 => "the root type has no definition",
-        8 => "a structure would start at depth 33",
+        8 => "a structure would start at depth 33, inline in 32 others",
         9 => "the charge would pass its cap",
         10 => "an item's block number would be above 4,095, or its start above 0xFFFFF",
         11 => "a text reads as a decimal number where a number is wanted",

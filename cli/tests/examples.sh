@@ -1,7 +1,7 @@
 # The examples are what examples/make.rs writes; the programs in C and Rust give the same packs, and say why they cannot.
 "$tools/make" "$t/made"
-same "$t/made/hall/hall.names" "$e/hall/hall.names"
-for scene in case1 hall; do
+for scene in hall road; do same "$t/made/$scene/$scene.names" "$e/$scene/$scene.names"; done
+for scene in case1 hall road; do
     same "$t/made/$scene/$scene.sheet" "$e/$scene/$scene.sheet"
     same "$t/made/$scene/$scene.schema" "$e/$scene/$scene.schema"
 done
@@ -34,6 +34,7 @@ for program in $programs; do
     tried 0 "$sheet" "$schema" "$t/$program.case1"; empty err; same "$t/$program.case1" "$e/case1/case1.pso"
     tried 0 "$e/hall/hall.sheet" "$e/hall/hall.schema" "$t/$program.hall"; same "$t/$program.hall" "$e/hall/hall.pso"
     has err "remark 2: structure 0xC8FDDC97, member 0x9F5ED20C, detail 3"
+    tried 0 "$e/road/road.sheet" "$e/road/road.schema" "$t/$program.road"; empty err; same "$t/$program.road" "$e/road/road.pso"
     tried 0 "$sheet" "$t/long" "$t/$program.long"; same "$t/$program.long" "$e/case1/case1.pso"
     tried 2 "$sheet" "$schema"; has err "pack SHEET SCHEMA OUT"
 

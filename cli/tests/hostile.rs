@@ -140,13 +140,13 @@ fn types(size: &Size) -> Vec<u8> {
     [words(&[n + 2]), row(21, 0, [0x40, 1, 1, 0]), row(19, 0x41, [2, n, 0, 0]), rows].concat()
 }
 
-/// Structures in one another, 32 deep, and the last points to one of 4 GB.
+/// Structures inline in one another, one more than there may be. The charge has room for all but the last.
 fn deep() -> (Vec<u8>, Vec<u8>) {
     let name = |depth: u32| if depth == 1 { 0x40 } else { 0x200 + depth };
-    let inline = (1..32).map(|d| structure(16, &[[0x41, 0x0C00_0000, name(d + 1)]]));
-    let last = structure(16, &[[0x41, 0x0C03_0000, 0x300]]);
-    let bodies: Vec<Vec<u8>> = inline.chain([last, structure(u32::MAX, &[])]).collect();
-    let names: Vec<(u32, usize)> = (1..33).map(name).chain([0x300]).zip(0..).collect();
+    let size = 4_194_304 / 32 - 16;
+    let inline = (1..33).map(|d| structure(size, &[[0x41, 0x0C00_0000, name(d + 1)]]));
+    let bodies: Vec<Vec<u8>> = inline.chain([structure(size, &[])]).collect();
+    let names: Vec<(u32, usize)> = (1..34).map(name).zip(0..).collect();
     let rows = (2..34).flat_map(|d| row(21, 0x41, [0x200 + d, d, u32::from(d < 33), 0]));
     let sheet: Vec<u8> = words(&[33]).into_iter().chain(row(21, 0, [0x40, 1, 1, 0])).chain(rows).collect();
     (sheet, alone(&schema(&names, &bodies)))

@@ -42,8 +42,8 @@ has out "FAIL  pointers followed: row 2, structure 0x40, member 0x41: byte 64016
 bounded 1 nowhere accept "$t/nowhere" --sheet "$t/few.sheet"; has out "FAIL  pointers followed: row 1, structure 0x40, member 0x41: "
 # One run under 65,000 members is laid until the charge passes its cap.
 bounded 1 members accept "$t/members" --sheet "$t/many.sheet"; has out "refusal 9: the charge would pass its cap (row 1"
-# A structure that is refused for its depth takes no room.
-bounded 1 deep accept "$t/deep" --sheet "$t/deep.sheet"; has out "refusal 8: a structure would start at depth 33 (row 32"
+# 8 comes before 9 where both are met.
+bounded 1 deep accept "$t/deep" --sheet "$t/deep.sheet"; has out "refusal 8: a structure would start at depth 33, inline in 32 others (row 32"
 # What costs no charge is counted in steps, and remarks by their number.
 bounded 2 flags accept "$t/flags" --sheet "$t/numbers.sheet"
 has out "????  rebuild from the pack's own schema: the scene with the definitions of the pack takes too many steps to be laid"

@@ -61,10 +61,10 @@ head -c 100 "$e/hall/hall.pso" >"$t/cut"; refuse 1 "$t/cut" $hall; has err "this
 printf 'STRF\0\0\0\7abcd' >"$t/text"; refuse 1 "$t/text" $hall; lacks err "PSO file"
 { printf 'STRF\0\220\0\0'; head -c 9437176 /dev/zero; } >"$t/longer"; refuse 1 "$t/longer" $hall; has err "this is a PSO file"
 refuse 4 "$e/hall/hall.sheet" --schema "$e/hall/hall.sheet"; has err "this looks like a sheet, a schema file is due"
-# A structure inside itself.
+# A structure inline in itself.
 cp "$e/case1/case1.sheet" "$t/null"; poke "$t/null" 28 0; poke "$t/null" 39 0
 hurt "$e/case1/case1.schema" 36 14 0 0 0 0 0 0 100; refuse 8 "$t/null" --schema "$t/hurt"
-has err "(structure 0x40, member 0x41: structure 0x40 would start there)"
+has err "refusal 8: a structure would start at depth 33, inline in 32 others (structure 0x40, member 0x41: structure 0x40 would start there)"
 refuse 9 "$e/case1/case1.sheet" $case1 --work 65544
 has err "(row 0, the root: 0 are charged, 20 more would be, the cap is 0; --work gives more room, 16842760 is the most)"
 refuse 12 "$e/case1/case1.sheet" $case1 --work 65543; has err "--work must be 65544 or more"
