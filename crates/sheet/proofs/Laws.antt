@@ -59,15 +59,16 @@ pub walks_stop : (T : Bytes) (n r : ℕ) (w : Walk) → placed T w r ≡ false �
 unfolding walks
 walks_stop T n r w q = rw (q, walks)
 
+-- the rows claimed with v
+pub claimed_after : (r : ℕ) (w : Walk) (v : Row) (x : Walk) → x ≡ after w r v → x.claimed ≡ w.claimed + child_count v
+unfolding after
+claimed_after r w v x e = rw e refl
+
 -- what a row that sits says of the counters
 module _ (n r : ℕ) (w : Walk) (v : Row) (h : sits n w r v ≡ true) where
   pub sits_sum : w.claimed + child_count v ≤ n
   unfolding sits
   sits_sum = bound (w.claimed + child_count v) n (sits n w r v) h (λ q. rw (q, and_false))
-
-  pub sits_claimed : (x : Walk) → x ≡ after w r v → x.claimed ≤ n
-  unfolding after
-  sits_claimed x e = rw e sits_sum
 
   pub sits_level : (x : Walk) → x ≡ after w r v → x.level ≤ 64
   unfolding sits after

@@ -1,7 +1,7 @@
 // The sheet's layout: refusals 1, 2 and 3.
 #![tactic(auto)]
 
-ghost use Rattle.std.specs.Prelude.{◌≡◌, cond, ◌+◌, ◌≤◌, ◌<◌, ◌^◌, eqb, max, fold};
+ghost use Rattle.std.specs.Prelude.{◌≡◌, cond, ◌+◌, ◌-◌, ◌≤◌, ◌<◌, ◌^◌, eqb, max, fold};
 ghost use Rattle.value.specs.Kind.{number_of as number_of_kind};
 ghost use Rattle.value.specs.Rows;
 ghost use Rattle.sheet.specs.Layout;
@@ -11,23 +11,16 @@ use numbers::refusal::Refusal;
 use value::kind::Kind;
 use value::{Row, name_of, read_row, row_count, text_area};
 
-// A row's number as the walk holds it, at most 16,384. It is a type of its own, since document 02 (2.3) asks for another width
-// of it than other crates' counts of rows have.
-pub type RowNumber = usize;
+// A row's number as the walk holds it, the one behind the last row included: "hold them in 16 bits inside it; a sheet has at
+// most 16,384 rows" (document 02, 2.3). Counts, and what a row's fields say, stay wide.
+pub type RowNumber = u16;
 
-// A count of rows as a row number.
+// A row's number from a count, once it is known not to be too large: "No field or sum is cut to fit".
 fn number_of(n: usize) -> RowNumber
     requires { n ≤ 16384 }
     ensures { result ≡ n }
 {
-    n
-}
-
-// A row number as a count of rows.
-fn count_of(r: RowNumber) -> usize
-    ensures { result ≡ r }
-{
-    r
+    n as RowNumber
 }
 
 // How many of a, b, c, d a kind uses.
@@ -80,21 +73,20 @@ fn row_sound(v: Row) -> bool
     })
 }
 
-// Whether n rows from r on have no name.
-fn nameless(sheet: &[u8], r: usize, n: usize) -> bool
-    requires { r + n < 2 ^ 40 }
-    ensures { result ≡ Layout.nameless sheet.now r n }
+// Whether the rows from first on and before end have no name.
+fn nameless(sheet: &[u8], first: RowNumber, end: RowNumber) -> bool
+    ensures { result ≡ Layout.nameless sheet.now first (end - first) }
 {
-    (r..r + n).all(|child| name_of(sheet, child) == 0)
+    (first..end).all(|child| name_of(sheet, child as usize) == 0)
 }
 
-// Whether the children of v, from row r on, have names only where v is a Struct.
+// Whether the children of v, from row first on and before end, have names only where v is a Struct.
 #[tactic(auto, unfolding(crate::specs::Layout::names_fit))]
-fn names_fit(sheet: &[u8], r: usize, v: Row) -> bool
-    requires { r < 2 ^ 33 }
-    ensures { result ≡ Layout.names_fit sheet.now r v }
+fn names_fit(sheet: &[u8], first: RowNumber, end: RowNumber, v: Row) -> bool
+    requires { end ≡ first + Rows.child_count v }
+    ensures { result ≡ Layout.names_fit sheet.now first v }
 {
-    v.is(Kind::Struct) || nameless(sheet, r, v.child_count())
+    v.is(Kind::Struct) || nameless(sheet, first, end)
 }
 
 // Whether a row has children.
@@ -160,16 +152,15 @@ impl Walk {
     // Whether v, row r of n, stands where the rows before it say.
     #[tactic(auto, unfolding(crate::specs::Layout::sits))]
     fn sits(self, n: usize, r: RowNumber, v: Row) -> bool
-        requires { (self.level < 2 ^ 33) × (self.claimed < 2 ^ 33) }
+        requires { self.level < 2 ^ 33 }
         ensures { result ≡ Layout.sits n self r v }
     {
-        let claimed = count_of(self.claimed);
-        count_of(r) < claimed
+        r < self.claimed
             && self.level_at(r) <= 64
             && row_sound(v)
             && (!v.is(Kind::Str) || v.a as usize == self.texts)
-            && (!is_container(v) || v.first_child() == claimed)
-            && claimed + v.child_count() <= n
+            && (!is_container(v) || v.first_child() == self.claimed as usize)
+            && self.claimed as usize + v.child_count() <= n
     }
 
     // What the rows up to v, row r, claim.
@@ -178,7 +169,7 @@ impl Walk {
         ensures { (result ≡ Layout.after self r v) × (result.texts < self.texts + 2 ^ 32) }
     {
         Walk {
-            claimed: number_of(count_of(self.claimed) + v.child_count()),
+            claimed: number_of(self.claimed as usize + v.child_count()),
             texts: self.texts + text_bytes(v),
             level: self.level_at(r),
             next: self.next_at(r),
@@ -193,15 +184,18 @@ fn walks(sheet: &[u8], n: usize) -> bool
     ensures { result ≡ Layout.walks sheet.now n 0 Layout.begin }
 {
     let mut w = Walk::new();
-    for i in 0..n {
-        let r = number_of(i);
-        let v = read_row(sheet, i);
-        if !w.sits(n, r, v) || !names_fit(sheet, count_of(w.claimed), v) {
+    for r in 0..number_of(n) {
+        let v = read_row(sheet, r as usize);
+        if !w.sits(n, r, v) {
             return false;
         }
-        w = w.after(r, v);
+        let stepped = w.after(r, v);
+        if !names_fit(sheet, w.claimed, stepped.claimed, v) {
+            return false;
+        }
+        w = stepped;
     }
-    count_of(w.claimed) == n && w.texts == text_area(sheet).len()
+    w.claimed as usize == n && w.texts == text_area(sheet).len()
 }
 
 // Whether the row count and the lengths of rows and text area are right.

@@ -6,4 +6,4 @@ use Rattle.sheet.proofs.Walk.after.Goals as goal
 pub returns : goal.returns
 unfolding Layout.after
 returns c =
-    (rw (c.number_of.ensures, c.count_of.ensures, c.child_count.ensures.0, c.text_bytes.ensures.0, c.level_at.ensures, c.next_at.ensures), omega arith)
+    (rw (c.number_of.ensures, c.child_count.ensures.0, c.text_bytes.ensures.0, c.level_at.ensures, c.next_at.ensures), omega arith)
