@@ -1,13 +1,14 @@
 //! Cases as theorems that are closed by evaluation, for the crate `cases`.
 use crate::commands::{case_of, file_of};
 use crate::compare;
+use crate::fixed::Fixed;
 use crate::gen::limits::work_for;
 use crate::gen::{Case, Size};
 use crate::model::reader::{self, Reading};
 use crate::model::schema::Schema;
 use crate::model::state::Remark;
 use crate::model::{build, Outcome, Pack, GENEROUS};
-use crate::roads::{self, Road};
+use crate::roads;
 use crate::select::{choose, Choice, Shown};
 use crate::stats::Stats;
 use std::fmt::Write;
@@ -171,10 +172,10 @@ fn choose_reads(seed: u64, count: usize) -> Vec<String> {
 /// Chains past 32 structures, and demand 3 on those that are built.
 fn roads(dir: &Path, modules: &mut Vec<String>) -> io::Result<()> {
     let (built, others) = (roads::built(), roads::others());
-    let answer = |(n, r): (usize, &Road)| format!("-- {}\n{}", r.what, made(n, &r.case, &build(&r.case.sheet, &r.case.schema, &r.case.limits)));
+    let answer = |(n, r): (usize, &Fixed)| format!("-- {}\n{}", r.what, made(n, &r.case, &build(&r.case.sheet, &r.case.schema, &r.case.limits)));
     let made: Vec<String> = built.iter().chain(&others).enumerate().map(answer).collect();
     write_files(dir, "Roads", "Roads", PER_MADE, &made, modules)?;
-    let law = |(n, r): (usize, &Road)| {
+    let law = |(n, r): (usize, &Fixed)| {
         let pack = r.generous.answer.as_ref().expect("built");
         let again = build(&r.case.sheet, &pack.file, &GENEROUS).answer.expect("held against the reference");
         format!("-- {}\n{}", r.what, laws(n, &r.case, pack, &again))

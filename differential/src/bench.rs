@@ -41,6 +41,21 @@ fn library(_scene: &Scene, _work: usize, _out: usize, _records: usize) -> Option
     None
 }
 
+/// The check of the sheet alone: with no definitions 7 is the answer, before work is looked at.
+#[cfg(builds)]
+fn library_check(scene: &Scene) -> Option<f64> {
+    let call = || crate::subject::building::call(&scene.sheet, &[], &mut [], &mut [], &mut []);
+    assert_eq!(call().0, 7, "{} is refused", scene.name);
+    Some(time(|| {
+        black_box(call());
+    }))
+}
+
+#[cfg(not(builds))]
+fn library_check(_scene: &Scene) -> Option<f64> {
+    None
+}
+
 #[cfg(library)]
 fn library_read(file: &[u8]) -> Option<f64> {
     use crate::subject::library::call_read;
@@ -83,7 +98,7 @@ pub fn bench() {
     println!("microseconds a call, the middle of nine samples; a ratio above 1 says how many times the library is faster");
     println!("| input | rows | sheet | schema | file | reference | with decoding | library, work tight | ratio | library, work 16 MB | ratio |");
     println!("|---|---|---|---|---|---|---|---|---|---|---|");
-    let mut lent = None;
+    let (mut lent, mut checked) = (None, Vec::new());
     for s in scenes() {
         let outcome = build(&s.sheet, &s.schema, &GENEROUS);
         let entries = outcome.index_entries.unwrap_or(0);
@@ -95,6 +110,9 @@ pub fn bench() {
         let rows = u32::from_be_bytes(s.sheet[..4].try_into().unwrap());
         if s.name == "typical scene" {
             lent = library(&s, work_for(entries, pack.charge) as usize, file, records + 4_096);
+        }
+        if !s.name.ends_with("definitions") {
+            checked.push(format!("{} {}", s.name, micros(library_check(&s))));
         }
         println!(
             "| {} | {rows} | {} | {} | {file} | {ready:.1} | {decoded:.1} | {} | {} | {} | {} |",
@@ -112,5 +130,6 @@ pub fn bench() {
     let most = time(|| black_box(&mut area).fill(0));
     println!("| reading a file of 10 MB | - | - | - | {} | {parsed:.1} | - | {} | {} | - | - |", file.len(), micros(read), ratio(parsed, read));
     println!("The typical scene with 4,096 records more than it has remarks: {}.", micros(lent));
+    println!("The check of the sheet alone: {}.", checked.join(", "));
     println!("Every call leaves its work area zero: clearing 65,536 bytes takes {least:.1}, clearing 16 MB {most:.1}.");
 }

@@ -7,6 +7,7 @@ use crate::model::{build, Limits, Outcome, GENEROUS, MAX_CHARGE};
 use crate::record;
 use crate::reference_side::silence_panics;
 use crate::rng::Rng;
+use crate::sheets;
 use crate::shrink;
 use crate::stats::Stats;
 use crate::subject::{self, process::Process, stream, Subject};
@@ -15,6 +16,7 @@ use std::io::{self, BufReader, BufWriter, Write};
 
 const HELP: &str = "differential/run [SEED [COUNT]] [options]     compares COUNT cases and a third as many files (default: 1 100000)
 differential/run files SEED COUNT             compares COUNT files for the reader
+differential/run sheets SEED COUNT            compares the check of COUNT sheets
 differential/run stream SEED COUNT FILE       writes requests for a program that is run by itself
 differential/run expect REQUESTS REPLIES      writes the replies that the model expects
 differential/run judge REQUESTS REPLIES       compares replies with what the model expects
@@ -78,6 +80,12 @@ pub fn run(args: &[String]) -> i32 {
     }
 }
 
+/// Says whether all agree.
+fn verdict(same: bool) -> Result<i32, String> {
+    println!("{}", if same { "no difference" } else { "a difference" });
+    Ok(!same as i32)
+}
+
 fn command(o: &Options) -> Result<i32, String> {
     let words: Vec<&str> = o.words.iter().map(|s| s.as_str()).collect();
     let io = |e: io::Error| e.to_string();
@@ -91,8 +99,11 @@ fn command(o: &Options) -> Result<i32, String> {
             let mut subject = announced(o, number(seed)?);
             let same = compare_files(o, number(seed)?, number(count)?, &mut subject, &mut stats);
             stats.print_files();
-            println!("{}", if same { "no difference" } else { "a difference" });
-            Ok(!same as i32)
+            verdict(same)
+        }
+        ["sheets", seed, count] => {
+            let mut subject = announced(o, number(seed)?);
+            verdict(sheets::compare(number(seed)?, o.from..o.from + number(count)?, &mut subject))
         }
         ["stream", seed, count, path] => write_stream(number(seed)?, number(count)?, o.size.unwrap_or(Size::Small), path).map_err(io).map(|_| 0),
         ["expect", requests, replies] => expect(requests, replies).map_err(io).map(|_| 0),
@@ -205,7 +216,7 @@ fn compare_all(o: &Options, seed: u64, count: u64) -> Result<i32, String> {
 }
 
 /// Prints the smallest failing case found.
-fn report(case: &Case, subject: &mut Option<Box<dyn Subject>>) {
+pub fn report(case: &Case, subject: &mut Option<Box<dyn Subject>>) {
     let mut last = String::new();
     let by_itself = |c: &Case, subject: &mut Option<Box<dyn Subject>>| {
         let outcome = build(&c.sheet, &c.schema, &c.limits);

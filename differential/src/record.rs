@@ -4,6 +4,7 @@ use crate::compare::{check, read_file};
 use crate::gen::{Case, Size};
 use crate::model::{build, Outcome};
 use crate::roads;
+use crate::row_numbers;
 use crate::select::{choose, Choice};
 use crate::stats::Stats;
 use std::fs;
@@ -67,7 +68,8 @@ impl Recorded {
     }
 }
 
-/// `stdin` and `stdout` of the program: COUNT cases chosen for what they show, four of refusal 10, a third as many files, roads.
+/// `stdin` and `stdout` of the program: COUNT cases chosen for what they show, four of refusal 10, a third as many files, and the
+/// cases that are the same for every seed.
 pub fn vectors(seed: u64, count: usize, dir: &str) -> io::Result<()> {
     let mut all = Recorded { input: Vec::new(), lines: String::new(), count: 0 };
     let mut codes = [0; 19];
@@ -78,8 +80,8 @@ pub fn vectors(seed: u64, count: usize, dir: &str) -> io::Result<()> {
     }
     println!("{} cases, by code {codes:?}", all.count);
     files(seed, count / 3, &mut all);
-    for road in roads::built().iter().chain(&roads::others()) {
-        all.build(&road.case, &build(&road.case.sheet, &road.case.schema, &road.case.limits));
+    for fixed in [roads::built(), roads::others(), row_numbers::all()].iter().flatten() {
+        all.build(&fixed.case, &build(&fixed.case.sheet, &fixed.case.schema, &fixed.case.limits));
     }
     println!("{} cases and files, {} bytes", all.count, all.input.len());
     fs::create_dir_all(dir)?;

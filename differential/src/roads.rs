@@ -1,32 +1,13 @@
 //! Chains that are recorded whatever the seed: past 32 structures by each way, nests inline to depth 32 and 33.
-use crate::compare::check;
+use crate::fixed::{fixed as road, Fixed as Road};
 use crate::gen::chain::{End, Link, Shape};
-use crate::gen::limits::work_for;
 use crate::gen::plan::{member, Body, Plan};
 use crate::gen::tree::{Tree, NULL_LEAF};
-use crate::gen::Case;
 use crate::model::schema::Member;
 use crate::model::sheet::U32;
 use crate::model::write::ARRAYINFO;
-use crate::model::{build, Limits, Outcome, GENEROUS};
-use crate::stats::Stats;
+use crate::model::{build, GENEROUS};
 use Link::*;
-
-pub struct Road {
-    pub what: String,
-    pub case: Case,
-    pub generous: Outcome,
-}
-
-/// The limits are what the case needs; it is held against the reference first.
-fn road(what: &str, (sheet, schema): (Vec<u8>, Vec<u8>)) -> Road {
-    let generous = build(&sheet, &schema, &GENEROUS);
-    let work = work_for(generous.index_entries.unwrap_or(0), generous.charge);
-    let out = generous.answer.as_ref().map_or(64, |p| p.file.len() as u64);
-    let case = Case { sheet, schema, limits: Limits { work, out, records: generous.remarks as u64 } };
-    check(&case, &generous, &mut None, &mut Stats::new()).unwrap_or_else(|e| panic!("{what}: {e}"));
-    Road { what: what.to_string(), case, generous }
-}
 
 /// The same with a byte less of work.
 fn shorter(what: &str, road: &Road) -> Road {

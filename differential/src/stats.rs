@@ -72,7 +72,7 @@ pub struct Stats {
 }
 
 /// Counts by answer.
-fn codes(c: &[u64; 19]) -> String {
+pub fn codes(c: &[u64; 19]) -> String {
     let list = c.iter().enumerate().filter(|(_, n)| **n > 0);
     list.map(|(k, n)| if k == 0 { format!("success {n}") } else { format!("{k}: {n}") }).collect::<Vec<_>>().join(", ")
 }

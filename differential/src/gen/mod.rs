@@ -8,6 +8,7 @@ pub mod limits;
 pub mod plan;
 pub mod road;
 pub mod schema;
+pub mod sheets;
 pub mod text;
 pub mod tree;
 pub mod value;
