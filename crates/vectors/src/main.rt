@@ -162,12 +162,22 @@ fn read_all(rt: &impl Input, space: &mut [u8]) -> io::Result<usize> {
     Ok(n)
 }
 
-// The work area has 4 MB, for refusal 10. Arrays and no Vec, here and in coerce_rows: a Vec rests on the heap's functions, and nothing more is
-// assumed for a program that checks the library.
+// Reads the cases, and replays them. `space` comes as an array and is cut here: `cases` says why.
+fn run(
+    rt: &(impl Input + Print),
+    space: &mut [u8; 1179648],
+    work: &mut [u8; 4325376],
+    out: &mut [u8; 2048],
+) -> io::Result<()> {
+    let n = read_all(rt, space)?;
+    cases(rt, part_to(space, n), work, out)
+}
+
+// The input has two sheets of 16,384 rows, the work area 4 MB, for refusal 10. Arrays and no Vec, here and in coerce_rows: a Vec rests on the
+// heap's functions, and nothing more is assumed for a program that checks the library.
 fn main(rt: HostRuntime) -> io::Result<()> {
-    let mut space = [0u8; 327680];
+    let mut space = [0u8; 1179648];
     let mut work = [0u8; 4325376];
     let mut out = [0u8; 2048];
-    let n = read_all(&rt, &mut space)?;
-    cases(&rt, part_to(&space, n), &mut work, &mut out)
+    run(&rt, &mut space, &mut work, &mut out)
 }
