@@ -1,53 +1,22 @@
--- Vectors: a text's first part, an Array's items. Assumes nothing.
-use Rattle.std.specs.Prelude.{Option, Some, None, option_map, find, MatchOption, not, ◌==◌, ◌≡◌, Bool, cond, List, [], ◌∷◌, ◌++◌, ℕ, zero, suc, ◌+◌, leb, length, take, replicate, Ok, Err}
+-- Vectors: an Array's items, a text's parts. Assumes nothing.
+use Rattle.std.specs.Prelude.{◌≡◌, Bool, cond, List, [], ◌∷◌, ℕ, zero, suc, ◌+◌, leb, length, take, Ok, Err}
 use mathlib.Core.Path.{refl, ap, ◌∙◌}
 use native.Mathlib.Omega.{arith}
-use borrow.Author.Tests.{lt-ltb, ne_eqb}
-use denote.Ref.{Bor}
+use borrow.Author.Tests.{lt-ltb}
 use Rattle.numbers.specs.Words.{Bytes}
 use Rattle.value.specs.Rows
-use Rattle.texts.specs.Text.{split, non_empty, parts}
 use Rattle.coerce.specs.Numbers
 use Rattle.coerce.specs.Numbers.{Fit, fit_then, map_fit}
 use Rattle.coerce.specs.Answer
-use Rattle.coerce.specs.declared.misfit.Misfit.{Misfit}
 use Rattle.coerce.specs.declared.misfit.Misfit.TheVariants.{Unfit}
-
--- ---- a text's first part
-
-abbrev pub filled_part : Bytes → Bool
-filled_part p = not (length p == 0)
-
-abbrev chosen : Option Bytes → Misfit
-chosen None = Unfit
-chosen (Some p) = Numbers.misfit_of p
-
--- the first part that is not empty
-first_is : (ps : List Bytes) → chosen (find filled_part ps) ≡ Answer.first_misfit (non_empty ps)
-unfolding non_empty
-first_is [] = refl
-first_is ([] ∷ ps) = first_is ps
-first_is ((b ∷ p) ∷ ps) = rw (ne_eqb (length (b ∷ p)) 0 (λ e. omega (arith, e)))
-
-pub first_found : (s : Bytes) (r : Option (Bor Bytes)) (m : Misfit) → option_map (λ (p : Bor Bytes). p.now) r ≡ find filled_part (split s)
-    → MatchOption r (m ≡ Unfit) (λ (p : Bor Bytes). m ≡ Numbers.misfit_of p.now) → m ≡ Answer.first_misfit (parts s)
-unfolding parts
-first_found s None m e h = h ∙ ap chosen e ∙ first_is (split s)
-first_found s (Some p) m e h = h ∙ ap chosen e ∙ first_is (split s)
-
--- a text gives no number
-pub vec_text_none : (T : Bytes) (ps : List Bytes) → Numbers.vec_text T ps ≡ Err (Answer.first_misfit ps)
-unfolding Numbers.vec_text
-vec_text_none T [] = refl
-vec_text_none T (p ∷ ps) = refl
 
 -- ---- four items
 
-same_then : {A B : Type 0} (x : Fit A) (k l : A → Fit B) → ((a : A) → k a ≡ l a) → fit_then x k ≡ fit_then x l
+pub same_then : {A B : Type 0} (x : Fit A) (k l : A → Fit B) → ((a : A) → k a ≡ l a) → fit_then x k ≡ fit_then x l
 same_then (Ok a) k l h = h a
 same_then (Err e) k l h = refl
 
-map_then : (m : Fit (List ℕ)) (a : ℕ) (k : List ℕ → Fit (List ℕ)) → fit_then (map_fit (a ∷◌) m) k ≡ fit_then m (λ xs. k (a ∷ xs))
+pub map_then : (m : Fit (List ℕ)) (a : ℕ) (k : List ℕ → Fit (List ℕ)) → fit_then (map_fit (a ∷◌) m) k ≡ fit_then m (λ xs. k (a ∷ xs))
 map_then (Ok xs) a k = refl
 map_then (Err e) a k = refl
 
@@ -61,37 +30,37 @@ abbrev four : Bool → Fit ℕ → Fit ℕ → Fit ℕ → Fit ℕ → Fit (List
 four b x y z w = fit_then x (λ i. fit_then y (λ j. fit_then z (λ k. fit_then w (λ l. cond b (Ok (i ∷ j ∷ k ∷ l ∷ [])) (Err Unfit)))))
 
 module _ (T : Bytes) (b : Bool) where
-  -- the numbers of some rows, filled up to four
-  abbrev filled : List ℕ → Fit (List ℕ)
-  filled rs = fit_then (Numbers.floats_of T rs) (λ xs. cond b (Ok (take 4 (xs ++ replicate 4 0))) (Err Unfit))
-
   abbrev at : ℕ → Fit ℕ
   at r = Numbers.float_of T (Rows.row T r)
 
+  -- the numbers of some rows, filled up to four
+  abbrev filled : List ℕ → Fit (List ℕ)
+  filled rs = fit_then (Numbers.each_fit at rs) (Numbers.four_of b)
+
   filled_one : (r : ℕ) → filled (r ∷ []) ≡ four b (at r) (Ok 0) (Ok 0) (Ok 0)
-  unfolding Numbers.floats_of
+  unfolding Numbers.each_fit
   filled_one r = next (at r) (Ok []) _
 
   filled_two : (r s : ℕ) → filled (r ∷ s ∷ []) ≡ four b (at r) (at s) (Ok 0) (Ok 0)
-  unfolding Numbers.floats_of
-  filled_two r s = next (at r) (Numbers.floats_of T (s ∷ [])) _ ∙ same_then (at r) _ _ (λ a. next (at s) (Ok []) _)
+  unfolding Numbers.each_fit
+  filled_two r s = next (at r) (Numbers.each_fit at (s ∷ [])) _ ∙ same_then (at r) _ _ (λ a. next (at s) (Ok []) _)
 
   filled_three : (r s t : ℕ) → filled (r ∷ s ∷ t ∷ []) ≡ four b (at r) (at s) (at t) (Ok 0)
-  unfolding Numbers.floats_of
+  unfolding Numbers.each_fit
   filled_three r s t =
-      next (at r) (Numbers.floats_of T (s ∷ t ∷ [])) _
-      ∙ same_then (at r) _ _ (λ a. next (at s) (Numbers.floats_of T (t ∷ [])) _ ∙ same_then (at s) _ _ (λ b. next (at t) (Ok []) _))
+      next (at r) (Numbers.each_fit at (s ∷ t ∷ [])) _
+      ∙ same_then (at r) _ _ (λ a. next (at s) (Numbers.each_fit at (t ∷ [])) _ ∙ same_then (at s) _ _ (λ b. next (at t) (Ok []) _))
 
   filled_four : (r s t u : ℕ) → filled (r ∷ s ∷ t ∷ u ∷ []) ≡ four b (at r) (at s) (at t) (at u)
-  unfolding Numbers.floats_of
+  unfolding Numbers.each_fit
   filled_four r s t u =
-      next (at r) (Numbers.floats_of T (s ∷ t ∷ u ∷ [])) _
-      ∙ same_then (at r) _ _ (λ a. next (at s) (Numbers.floats_of T (t ∷ u ∷ [])) _
-      ∙ same_then (at s) _ _ (λ b. next (at t) (Numbers.floats_of T (u ∷ [])) _ ∙ same_then (at t) _ _ (λ c. next (at u) (Ok []) _)))
+      next (at r) (Numbers.each_fit at (s ∷ t ∷ u ∷ [])) _
+      ∙ same_then (at r) _ _ (λ a. next (at s) (Numbers.each_fit at (t ∷ u ∷ [])) _
+      ∙ same_then (at s) _ _ (λ b. next (at t) (Numbers.each_fit at (u ∷ [])) _ ∙ same_then (at t) _ _ (λ c. next (at u) (Ok []) _)))
 
   -- the first four of the rows f, f + 1, .. of which there are c
   rows : (f c : ℕ) → filled (take 4 (Rows.rows_from f c)) ≡ four b (Answer.item_at T f c 0) (Answer.item_at T f c 1) (Answer.item_at T f c 2) (Answer.item_at T f c 3)
-  unfolding Rows.rows_from Numbers.floats_of
+  unfolding Rows.rows_from Numbers.each_fit
   rows f c =
       let e0 : f + 0 ≡ f = omega arith in
       let e1 : f + 1 ≡ suc f = omega arith in

@@ -1,6 +1,6 @@
 // Why a row gives no value.
 
-// It does not fit, or it is a float's text (refusal 11).
+// It does not fit, or it is a float's text and no decimal (refusal 11).
 #[derive(Clone, Copy, Debug, PartialEq, Eq)]
 pub enum Misfit {
     Unfit,

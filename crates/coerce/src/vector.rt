@@ -6,18 +6,39 @@ ghost use Rattle.coerce.specs.Numbers;
 ghost use Rattle.coerce.specs.Answer;
 
 use crate::misfit::Misfit;
-use crate::whole::{float_of, misfit_of};
+use crate::whole::{float_of, float_text};
 use texts::text::is_parting;
 use value::kind::Kind;
 use value::{Row, read_row, text_of};
 
-// What a text is that stands for no vector: its first part decides, and no part after it is looked at.
-fn first_misfit(s: &[u8]) -> Misfit
-    ensures { result ≡ Answer.first_misfit (parts s.now) }
+// The four numbers v with x as number i, from 0; behind the fourth, v as it is.
+fn placed(v: [u32; 4], i: usize, x: u32) -> [u32; 4]
+    ensures { result ≡ Answer.placed v i x }
 {
-    s.split(|&b| is_parting(b))
-        .find(|part| !part.is_empty())
-        .map_or(Misfit::Unfit, misfit_of)
+    let mut v = v;
+    if i < 4 {
+        v[i] = x;
+    }
+    v
+}
+
+// A text's parts as f32s, all of them in order; n are wanted, the first four are given.
+fn vec_text(s: &[u8], n: usize) -> Result<[u32; 4], Misfit>
+    ensures { result ≡ Numbers.vec_text n (parts s.now) }
+{
+    let mut v = [0; 4];
+    let mut m = 0;
+    for part in s.split(|&b| is_parting(b)) {
+        if part.is_empty() {
+            continue;
+        }
+        v = placed(v, m, float_text(part)?);
+        m += 1;
+    }
+    if n <= m {
+        return Ok(v);
+    }
+    Err(Misfit::Unfit)
 }
 
 // Item i of the `count` rows from `first` on as an f32; 0 behind the last. The rows are two numbers, as the definition
@@ -49,14 +70,14 @@ fn vec_array(sheet: &[u8], n: usize, first: usize, count: usize) -> Result<[u32;
 }
 
 // A row as four f32s; n are wanted.
-#[tactic(auto, using(crate::proofs::Vectors::vec_text_none), unfolding(crate::specs::Numbers::vec_of, value::specs::Rows::children_of))]
+#[tactic(auto, unfolding(crate::specs::Numbers::vec_of, value::specs::Rows::children_of))]
 pub fn vec_of(sheet: &[u8], v: Row, n: usize) -> Result<[u32; 4], Misfit>
     ensures { result ≡ Numbers.vec_of sheet.now n v }
 {
     match Kind::try_from(v.kind) {
         Ok(Kind::Null | Kind::Vec2 | Kind::Vec3 | Kind::Vec4) => Ok([v.a, v.b, v.c, v.d]),
         Ok(Kind::Array) => vec_array(sheet, n, v.first_child(), v.child_count()),
-        Ok(Kind::Str) => Err(first_misfit(text_of(sheet, v))),
+        Ok(Kind::Str) => vec_text(text_of(sheet, v), n),
         _ => Err(Misfit::Unfit),
     }
 }

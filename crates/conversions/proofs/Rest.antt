@@ -11,7 +11,7 @@ use Rattle.numbers.proofs.Parts.{split}
 use Rattle.conversions.specs.Single.{value}
 use Rattle.conversions.specs.Round.{mag_of}
 use Rattle.conversions.specs.Trunc.{whole}
-use Rattle.conversions.proofs.Best.{mag_of_high}
+use Rattle.conversions.proofs.Ratio.{mag_of_high}
 use Rattle.conversions.proofs.Exact.{exact}
 use Rattle.conversions.proofs.Nearest.{value_low, value_set}
 

@@ -1,71 +1,84 @@
 -- `Nearest` determines the pattern. Assumes nothing.
+use Rattle.std.specs.Prelude.{Bool, true, false}
 use mathlib.Core.Path.{◌≡◌, refl, sym, ap, ◌∙◌}
 use mathlib.Core.Logic.{⊎_elim}
-use Prim.Native.Nat.{ℕ, zero, suc, ◌-◌, ◌*◌, ◌%◌, ◌^◌, ◌≤◌, ◌<◌}
+use Prim.Native.Nat.{ℕ, zero, suc, ◌*◌, ◌%◌, ◌^◌, ◌≤◌, ◌<◌}
+use native.Mathlib.Nat.{mul-le-mul_right, mul-lt-mul_of_pos_right}
 use native.Mathlib.Omega.{arith}
-use lib.IntN.{ℤ, pos, negsuc, neg_ℤ, nat_abs, ◌-ℤ◌}
+use lib.IntN.{nat_abs}
 use Rattle.numbers.proofs.Parts.{split}
-use Rattle.conversions.specs.Single.{units, value, away}
-use Rattle.conversions.specs.Round.{Finite, Nearest}
+use Rattle.conversions.specs.Single.{units, value, low, with_sign, away}
+use Rattle.conversions.specs.Round.{Finite, Signed, Nearest}
 use Rattle.conversions.proofs.Units.{units_step, units_mono}
 use Rattle.conversions.proofs.Best.{dist}
-use Rattle.conversions.proofs.Nearest.{abs_pp, abs_nn, value_low, value_high}
+use Rattle.conversions.proofs.Nearest.{value_signed, away_same}
 
--- two patterns p < q at the same distance from M, both even, and none between them nearer: there is none such
-between : (M p q : ℕ) → p < q → p % 2 ≡ 0 → q % 2 ≡ 0 → dist M (units p) ≡ dist M (units q) → dist M (units p) ≤ dist M (units (suc p)) → ⊥
-between M p q l ep eq d n = omega (arith, units_step p, units_step (suc p), units_mono (suc (suc p)) q (omega arith))
+-- two patterns p < q at the same distance from M, each unit counted d times, both even, and none between them nearer: there is none such
+between : (d M p q : ℕ) → 0 < d → p < q → p % 2 ≡ 0 → q % 2 ≡ 0 → dist M (units p * d) ≡ dist M (units q * d) → dist M (units p * d) ≤ dist M (units (suc p) * d) → ⊥
+between d M p q pos_d l ep eq e n =
+    omega (
+      arith,
+      mul-lt-mul_of_pos_right (units_step p) pos_d,
+      mul-lt-mul_of_pos_right (units_step (suc p)) pos_d,
+      mul-le-mul_right d (units_mono (suc (suc p)) q (omega arith)),
+    )
 
 grows : (p q : ℕ) → p < q → units p < units q
 grows p q l = omega (arith, units_step p, units_mono (suc p) q l)
 
-pos_one : (a b : ℕ) → pos a ≡ pos b → a ≡ b
-pos_one a b e = ap nat_abs e
+signed_one : (minus : Bool) (a b : ℕ) → with_sign minus a ≡ with_sign minus b → a ≡ b
+signed_one minus a b e = sym (abs minus a) ∙ ap nat_abs e ∙ abs minus b where
+  abs : (m : Bool) (n : ℕ) → nat_abs (with_sign m n) ≡ n
+  abs false n = refl
+  abs true zero = refl
+  abs true (suc n) = refl
 
-neg_one : (a b : ℕ) → neg_ℤ (pos a) ≡ neg_ℤ (pos b) → a ≡ b
-neg_one a b e = sym (abs_neg a) ∙ ap nat_abs e ∙ abs_neg b where
-  abs_neg : (n : ℕ) → nat_abs (neg_ℤ (pos n)) ≡ n
-  abs_neg zero = refl
-  abs_neg (suc n) = refl
+-- the next pattern of the same sign
+next_low : (minus : Bool) (r q : ℕ) → Signed minus r → Signed minus q → q < 2 ^ 32 → r < q
+    → (low r < low q) × (low (suc r) ≡ suc (low r)) × Signed minus (suc r)
+next_low false r q a b f l = (omega arith, omega arith, omega arith)
+next_low true r q a b f l = (omega arith, omega arith, omega arith)
 
--- what two nearest patterns r < q of M units, or of M units below 0, come to
-module _ (D : ℕ → ℕ) (r q : ℕ) (l : r < q)
-    (nr : (y : ℕ) → Finite y → D r ≤ D y) (nq : (y : ℕ) → Finite y → D q ≤ D y) (fr : Finite r) (fq : Finite q)
-    (er : (y : ℕ) → Finite y → D y ≡ D r → (value y ≡ value r → ⊥) → r % 2 ≡ 0)
-    (eq : (y : ℕ) → Finite y → D y ≡ D q → (value y ≡ value q → ⊥) → q % 2 ≡ 0) where
-  same : D r ≡ D q
-  same = omega (arith, nr q fq, nq r fr)
+even_low : (b : ℕ) → b % 2 ≡ 0 → low b % 2 ≡ 0
+even_low b e = omega arith
 
-  plus : (M : ℕ) → ((y : ℕ) → y < 2 ^ 31 → D y ≡ dist M (units y)) → q < 2 ^ 31 → ⊥
-  plus M at h =
-      let g = grows r q l in
-      let apart : value q ≡ value r → ⊥ = λ e. omega (arith, pos_one (units q) (units r) (sym (value_low q h) ∙ e ∙ value_low r (omega arith)), g) in
-      let next : Finite (suc r) = (omega (arith, fq.1), omega (arith, fq.1)) in
-      between M r q l (er q fq (sym same) apart) (eq r fr same (λ e. apart (sym e)))
-      (omega (arith, same, at r (omega arith), at q h))
-      (omega (arith, nr (suc r) next, at r (omega arith), at (suc r) (omega arith)))
+not_less : (minus : Bool) (n d r q : ℕ) → 0 < d → Nearest minus n d r → Nearest minus n d q → r < q → ⊥
+not_less minus n d r q pos_d a b l = between d (n * 2 ^ 149) (low r) (low q) pos_d s.0 (even_low r er) (even_low q eq) at_same at_next where
+  s : (low r < low q) × (low (suc r) ≡ suc (low r)) × Signed minus (suc r)
+  s = next_low minus r q a.sign b.sign b.finite.0 l
 
-  minus : (M : ℕ) → ((y : ℕ) → 2 ^ 31 ≤ y → D y ≡ dist M (units (y - 2 ^ 31))) → 2 ^ 31 ≤ r → ⊥
-  minus M at h =
-      let k : 2 ^ 31 ≤ q = omega arith in
-      let b : q < 2 ^ 32 = fq.0 in
-      let g = grows (r - 2 ^ 31) (q - 2 ^ 31) (omega arith) in
-      let apart : value q ≡ value r → ⊥ = λ e. omega (arith, neg_one (units (q - 2 ^ 31)) (units (r - 2 ^ 31)) (sym (value_high q k) ∙ e ∙ value_high r h), g) in
-      let next : Finite (suc r) = (omega (arith, fq.1), omega (arith, fq.1)) in
-      let n : suc r - 2 ^ 31 ≡ suc (r - 2 ^ 31) = omega arith in
-      let er₀ : r % 2 ≡ 0 = er q fq (sym same) apart in
-      let eq₀ : q % 2 ≡ 0 = eq r fr same (λ e. apart (sym e)) in
-      between M (r - 2 ^ 31) (q - 2 ^ 31) (omega arith) (omega arith) (omega arith)
-      (omega (arith, same, at r h, at q k))
-      (omega (arith, nr (suc r) next, at r h, at (suc r) (omega arith) ∙ ap (λ (x : ℕ). dist M (units x)) n))
+  same : away minus n d r ≡ away minus n d q
+  same = omega (arith, a.nearest q b.finite, b.nearest r a.finite)
 
-not_less : (x : ℤ) (r q : ℕ) → Nearest x r → Nearest x q → r < q → ⊥
-not_less (pos n) r q a b l =
-    plus (away (pos n)) r q l a.nearest b.nearest a.finite b.finite a.even b.even (n * 2 ^ 149)
-    (λ y h. ap (λ (v : ℤ). nat_abs (pos (n * 2 ^ 149) -ℤ v)) (value_low y h) ∙ abs_pp (n * 2 ^ 149) (units y)) b.sign
-not_less (negsuc n) r q a b l =
-    minus (away (negsuc n)) r q l a.nearest b.nearest a.finite b.finite a.even b.even (suc n * 2 ^ 149)
-    (λ y h. ap (λ (v : ℤ). nat_abs (neg_ℤ (pos (suc n * 2 ^ 149)) -ℤ v)) (value_high y h) ∙ abs_nn (suc n * 2 ^ 149) (units (y - 2 ^ 31))) a.sign
+  apart : value q ≡ value r → ⊥
+  apart e =
+      omega (
+        arith,
+        grows (low r) (low q) s.0,
+        signed_one minus (units (low q)) (units (low r)) (sym (value_signed minus q b.finite.0 b.sign) ∙ e ∙ value_signed minus r a.finite.0 a.sign),
+      )
 
-pub nearest_one : (x : ℤ) (r q : ℕ) → Nearest x r → Nearest x q → r ≡ q
-nearest_one x r q a b =
-    ⊎_elim (λ l. absurd (not_less x r q a b l)) (λ l. ⊎_elim (λ k. absurd (not_less x q r b a k)) (λ k. omega arith) (split q r)) (split r q)
+  er : r % 2 ≡ 0
+  er = a.even q b.finite (sym same) apart
+
+  eq : q % 2 ≡ 0
+  eq = b.even r a.finite same (λ e. apart (sym e))
+
+  at_same : dist (n * 2 ^ 149) (units (low r) * d) ≡ dist (n * 2 ^ 149) (units (low q) * d)
+  at_same = sym (away_same minus n d r a.finite.0 a.sign) ∙ same ∙ away_same minus n d q b.finite.0 b.sign
+
+  next : Finite (suc r)
+  next = (omega (arith, b.finite.0), omega (arith, s.1, s.0, b.finite.1))
+
+  at_next : dist (n * 2 ^ 149) (units (low r) * d) ≤ dist (n * 2 ^ 149) (units (suc (low r)) * d)
+  at_next =
+      omega (
+        arith,
+        a.nearest (suc r) next,
+        away_same minus n d r a.finite.0 a.sign,
+        away_same minus n d (suc r) next.0 s.2 ∙ ap (λ (x : ℕ). dist (n * 2 ^ 149) (units x * d)) s.1,
+      )
+
+pub nearest_one : (minus : Bool) (n d r q : ℕ) → 0 < d → Nearest minus n d r → Nearest minus n d q → r ≡ q
+nearest_one minus n d r q pos_d a b =
+    ⊎_elim (λ l. absurd (not_less minus n d r q pos_d a b l)) (λ l. ⊎_elim (λ k. absurd (not_less minus n d q r pos_d b a k)) (λ k. omega arith) (split q r)) (split r q)

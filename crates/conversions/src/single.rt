@@ -1,28 +1,25 @@
 // f32 bit patterns: from a whole number, and to one. The steps on bits are a rule of the project: no f32 is computed with.
-ghost use Rattle.std.specs.Prelude.{◌≡◌, ◌+◌, ◌<◌, ◌*◌, ◌^◌, pos, ◌-ℤ◌, ◌*ℤ◌};
+ghost use Rattle.std.specs.Prelude.{◌≡◌, ◌≤◌, ◌+◌, ◌<◌, ◌*◌, ◌%◌, ◌^◌, pos, ◌-ℤ◌, ◌*ℤ◌};
 ghost use Rattle.std.proofs.Math.IntN.{sub_ℕ};
 ghost use Rattle.conversions.specs.Single.{value};
-ghost use Rattle.conversions.specs.Round.{Rounded, round40, mag_of, f32_of};
+ghost use Rattle.conversions.specs.Round.{Rounded, round_quotient, divisor_shift, ratio_of, mag_of, f32_of};
 ghost use Rattle.conversions.specs.Trunc.{whole, i64_of};
 
-// n / 2^40 to the nearest whole number, and at a tie to the even one.
-#[tactic(auto, unfolding(crate::specs::Round::round40))]
-fn round_even(n: u64) -> u64
-    ensures { result ≡ round40 n }
+// n / d to the nearest whole number, and at a tie to the even one.
+fn quotient_even(n: u64, d: u64) -> u64
+    requires { (0 < d) × (d % 2 ≡ 0) }
+    ensures { result ≡ round_quotient n d }
 {
-    let q = n >> 40;
-    let rest = n % 0x100_0000_0000;
-    if rest < 0x80_0000_0000 {
+    let q = n / d;
+    let rest = n % d;
+    let half = d / 2;
+    if rest < half {
         return q;
     }
-    if rest == 0x80_0000_0000 {
-        q + q % 2
-    } else {
-        q + 1
-    }
+    if rest == half { q + q % 2 } else { q + 1 }
 }
 
-// The pattern of the f32 nearest to m.
+// The pattern of the f32 nearest to m: m / 1, where the divisor is 2^40 always.
 pub fn f32_of_u64(m: u64) -> u32
     ensures { result ≡ mag_of m }
 {
@@ -30,8 +27,32 @@ pub fn f32_of_u64(m: u64) -> u32
         return 0;
     }
     let z = m.leading_zeros();
-    let c = round_even(m << z);
+    let c = quotient_even(m << z, 0x100_0000_0000);
     (189 - z) * 0x80_0000 + (c as u32)
+}
+
+// By how many binary digits d is moved up, so that t / d, t with its first digit in place 63, has 24.
+fn divisor_shift(t: u64, d: u64) -> u32
+    requires { (0 < d) × (d ≤ 2 ^ 30) }
+    ensures { result ≡ divisor_shift t d }
+{
+    let v = d.leading_zeros();
+    if t < d << v { v - 24 } else { v - 23 }
+}
+
+// The pattern of the f32 nearest to n / d: a quotient of 24 binary digits, rounded.
+pub fn f32_of_ratio(n: u64, d: u64) -> u32
+    requires { (0 < d) × (d ≤ 2 ^ 30) }
+    ensures { result ≡ ratio_of n d }
+{
+    if n == 0 {
+        return 0;
+    }
+    let z = n.leading_zeros();
+    let t = n << z;
+    let s = divisor_shift(t, d);
+    let c = quotient_even(t, d << s);
+    (149 + s - z) * 0x80_0000 + (c as u32)
 }
 
 // The pattern of the f32 nearest to x. What x has more than that is `f32_rest`.

@@ -1,4 +1,4 @@
--- Answers as codes with values: 0 a value, 1 none, 11 a float's text.
+-- Answers as codes with values: 0 a value, 1 none, 11 a float's text that is no decimal.
 use Rattle.std.specs.Prelude.{ℕ, ◌≡◌, ◌^◌, Bool, true, false, cond, ◌&&◌, List, [], leb, ltb, ℤ, pos, length, get_or, Option, None, Result, Ok, Err, is_some, unwrap_or}
 use Rattle.std.specs.Result.{result_unwrap_or}
 use Rattle.numbers.specs.Words.{Bytes, over}

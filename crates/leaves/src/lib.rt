@@ -61,7 +61,7 @@ pub struct Four {
     pub d: u32,
 }
 
-// 0 where there is a value, 1 where there is none, and 11 at a float's text.
+// 0 where there is a value, 1 where there is none, and 11 at a float's text that is no decimal.
 fn code_of<T>(answer: &Result<T, Misfit>) -> u32
     ensures { result ≡ Codes.code_of answer.now }
 {

@@ -238,7 +238,7 @@ module _ (R : Round) (n : ℕ) (p : Progress) (w : Bytes) where
           go (Ok bs) g y = absurd y
           go (Err FloatText) g y = cc
 
-      -- a float's text
+      -- refusal 11
       pub cell_refused : Safe R n p → Puts (cell row) part m.offset (Err FloatText) c → Fills found R n p w d.size cells (refuses 11 p) (put_mid low wide w c)
       unfolding fit_m fail
       cell_refused h u = go (cell row) refl u

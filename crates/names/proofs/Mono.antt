@@ -1,4 +1,4 @@
--- What fails to coerce with an enum's entries fails with none, and comes to no float parse then: demand 3 rests on it.
+-- What fails to coerce with an enum's entries fails with none, and is not refused with 11 then: demand 3 rests on it.
 -- Assumes nothing.
 use Rattle.std.specs.Prelude.{Ok, Err}
 use Prim.Native.Nat.{ℕ, zero, suc}
@@ -13,7 +13,7 @@ use Rattle.coerce.specs.Numbers.{Fit, fit_then, map_fit, fit_or, int_of, parse_i
 use Rattle.coerce.specs.declared.misfit.Misfit.TheVariants.{Unfit, FloatText}
 use Rattle.names.specs.Names.{Entries, hash_text, low32, number_or, named_text, enum_value, flag_names, flag_items, flags_body, flags_bits}
 
--- a, with entries, and b, with none: where a fails, b fails; where a fits, b comes to no float parse
+-- a, with entries, and b, with none: where a fails, b fails; where a fits, b is not refused with 11
 abbrev pub Below : {A : Type 0} → Fit A → Fit A → Type 0
 Below (Ok x) (Ok y) = Unit {0}
 Below (Ok x) (Err Unfit) = Unit {0}

@@ -46,7 +46,7 @@ Entries = List (ℕ × ℕ)
 abbrev pub low32 : ℕ → ℕ
 low32 x = x % 2 ^ 32
 
--- a number's low 32 bits, or the other where there is none; a float's text stays
+-- a number's low 32 bits, or the other where there is none; refusal 11 stays
 abbrev pub number_or : Fit ℕ → Fit ℕ → Fit ℕ
 number_or (Ok x) o = Ok (low32 x)
 number_or (Err Unfit) o = o

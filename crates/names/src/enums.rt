@@ -27,7 +27,9 @@ pub fn low_of(sheet: &[u8], v: Row) -> Result<u32, Misfit>
     int_of(sheet, v).map(low32)
 }
 
-// A text's number in an enum or flags place: where there is none, its names decide.
+// A text's number in an enum or flags place: where there is none, its names decide. Most such texts are names, and a call for each
+// would be seen in a scene's time.
+#[inline(always)]
 #[tactic(auto, unfolding(crate::specs::Names::named_text))]
 pub fn number_text(t: &[u8]) -> Result<u32, Misfit>
     ensures { result ≡ Names.named_text t.now (Err Unfit) }

@@ -1,4 +1,4 @@
--- Refusal 11's grammar: what Rust's `f32` and `f64` parse takes.
+-- What Rust's `f32` and `f64` parse takes: refusal 11's grammar, but for decimals (`Decimal`).
 use Rattle.std.specs.Prelude.{ℕ, suc, ◌+◌, Bool, true, false, cond, ◌&&◌, ◌||◌, [], ◌∷◌, leb, eqb, drop}
 use Rattle.numbers.specs.Words.{Bytes, is_empty}
 use Rattle.conversions.specs.Radix.{first_of}

@@ -1,3 +1,4 @@
--- Texts: trimming, parts, words, and the grammar of floats.
+-- Texts: trimming, parts, words, the grammar of floats and that of decimals.
 pub mod Text
 pub mod Float
+pub mod Decimal

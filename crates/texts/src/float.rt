@@ -5,7 +5,7 @@ ghost use Rattle.texts.specs.Float;
 use crate::text::is_word;
 
 // How many digits stand in front.
-fn leading_digits(s: &[u8]) -> usize
+pub fn leading_digits(s: &[u8]) -> usize
     ensures { (result ≡ Float.leading_digits s.now) × (result ≤ length s.now) }
 {
     s.iter()
@@ -14,7 +14,7 @@ fn leading_digits(s: &[u8]) -> usize
 }
 
 // What follows a sign.
-fn after_sign(s: &[u8]) -> &[u8]
+pub fn after_sign(s: &[u8]) -> &[u8]
     ensures { result.now ≡ Float.after_sign s.now }
 {
     match s {

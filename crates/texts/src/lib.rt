@@ -1,5 +1,6 @@
-// Texts: trimming, parts, words, and which of them are floats.
+// Texts: trimming, parts, words, which of them are floats, and decimals.
 #![tactic(auto)]
 
+pub mod decimal;
 pub mod float;
 pub mod text;

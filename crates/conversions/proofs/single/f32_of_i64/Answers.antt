@@ -6,8 +6,8 @@ use lib.IntN.{ℤ, nat_abs}
 use mir.Syntax.{w64}
 use mir.Val.{SFits, of_z, to_z}
 use mir.Facts.{Fits-nat_abs, to_z-of_z}
-use Rattle.conversions.specs.Round.{Nearest, mag_of, f32_of}
-use Rattle.conversions.proofs.Best.{mag_of_high}
+use Rattle.conversions.specs.Round.{Nearest, is_negative, mag_of, f32_of}
+use Rattle.conversions.proofs.Ratio.{mag_of_high}
 use Rattle.conversions.proofs.Nearest.{f32_of_nearest}
 use Rattle.conversions.proofs.Signs.{Below, Above, is_below, is_above}
 use Rattle.conversions.proofs.single.f32_of_i64.Goals as goal
@@ -34,9 +34,9 @@ overflow_add-result c = omega (arith, high_of _ _ _ c.ranges.x c.unsigned_abs.en
 pub returns-then-x-lt0 : goal.returns-then-x-lt0
 returns-then-x-lt0 c =
     let e = minus _ _ _ c.ranges.x c.unsigned_abs.ensures.value c.f32_of_u64-m.ensures (is_below c.ranges.x c.if-x-lt0.true) in
-    record { is = e; nearest = subst (Nearest c.args.x) (sym e) (f32_of_nearest c.args.x c.ranges.x) }
+    record { is = e; nearest = subst (Nearest (is_negative c.args.x) (nat_abs c.args.x) 1) (sym e) (f32_of_nearest c.args.x c.ranges.x) }
 
 pub returns-else-x-lt0 : goal.returns-else-x-lt0
 returns-else-x-lt0 c =
     let e = plus _ _ _ c.ranges.x c.unsigned_abs.ensures.value c.f32_of_u64-m.ensures (is_above c.ranges.x c.if-x-lt0.false) in
-    record { is = e; nearest = subst (Nearest c.args.x) (sym e) (f32_of_nearest c.args.x c.ranges.x) }
+    record { is = e; nearest = subst (Nearest (is_negative c.args.x) (nat_abs c.args.x) 1) (sym e) (f32_of_nearest c.args.x c.ranges.x) }
