@@ -1,4 +1,4 @@
--- Worked cases, closed by evaluation. Made, Laws, Read, Roads, RoadLaws and Texts are written by
+-- Worked cases, closed by evaluation. Made, Laws, Read, Roads, RoadLaws, Decimals and Texts are written by
 -- `differential/run record cases 4242 crates/cases/specs`, then `rt tidy`.
 pub mod Check
 pub mod Records
@@ -20,6 +20,7 @@ pub mod Made13
 pub mod Made14
 pub mod Made15
 pub mod Made16
+pub mod Made17
 pub mod Laws00
 pub mod Laws01
 pub mod Laws02
@@ -32,3 +33,5 @@ pub mod Read02
 pub mod Read03
 pub mod Roads00
 pub mod RoadLaws00
+pub mod Decimals00
+pub mod Decimals01

@@ -1,9 +1,9 @@
 -- Demand 3 on roads 0 to 4.
-use Rattle.std.specs.Prelude.{◌≡◌, refl, true, [], ◌∷◌}
+use Rattle.std.specs.Prelude.{ℕ, ◌≡◌, refl, true, List, [], ◌∷◌, ◌++◌}
 use Rattle.numbers.specs.Words.{Bytes, words}
-use Rattle.numbers.specs.Result.{ok, map_result}
-use Rattle.pso.specs.Reader.{parse_pso}
-use Rattle.layout.specs.Build.{layout, build}
+use Rattle.numbers.specs.Result.{Result, ok, refused, map_result}
+use Rattle.pso.specs.Reader.{Pso, parse_pso}
+use Rattle.layout.specs.Build.{Built, layout, build}
 use Rattle.layout.specs.Demand3.{read_back}
 use Rattle.layout.specs.Eval
 use Rattle.cases.specs.Check
