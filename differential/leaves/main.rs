@@ -1,7 +1,9 @@
 //! The leaves against Rust's own arithmetic and text reading, and the coercions against the reference's.
 #[allow(dead_code)]
 mod coerce;
+mod decimals;
 mod hash;
+#[cfg_attr(model, path = "model.rs")]
 mod leaf;
 #[allow(dead_code)]
 mod math;
@@ -59,6 +61,7 @@ fn whole(r: &mut Random) -> i64 {
     }
 }
 
+#[cfg(not(model))]
 fn conversions(r: &mut Random) {
     let t = Instant::now();
     let mut n = 0;
@@ -94,7 +97,8 @@ const PIECES: &[&str] = &[
 ];
 
 fn text(r: &mut Random) -> String {
-    match r.below(8) {
+    match r.below(10) {
+        8 | 9 => decimals::some(r),
         0 => (0..r.below(12)).map(|_| ((r.next() >> 20) as u8 & 127) as char).collect(),
         1 => (0..r.below(24)).map(|_| *r.pick(&['0', '1', '7', '8', '9', 'f', 'F', '.', 'e', '-', '+', ' '])).collect(),
         2 => format!("{}{}", r.pick(&["", "+", "-", "0x", "0x-", " "]), r.next() >> r.below(64)),
@@ -103,7 +107,7 @@ fn text(r: &mut Random) -> String {
     }
 }
 
-
+#[cfg(not(model))]
 fn texts(r: &mut Random) {
     let t = Instant::now();
     let mut n = 0;
@@ -279,8 +283,11 @@ fn main() {
     }
     let seed = args.get(1).and_then(|s| s.parse::<u64>().ok()).unwrap_or(1);
     let mut r = Random(seed.wrapping_mul(0x9E37_79B9_7F4A_7C15) | 1);
+    #[cfg(not(model))]
     texts(&mut r);
     all_coercions(&mut r);
+    decimals::all(&mut r);
+    #[cfg(not(model))]
     conversions(&mut r);
     println!("all agree");
 }

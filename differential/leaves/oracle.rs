@@ -1,4 +1,5 @@
-//! What the reference answers. Where it comes to a float parse that succeeds, judged by Rust's own parse, the answer is code 11.
+//! What the reference answers. Where it comes to a float parse that succeeds, judged by Rust's own parse, and the text is no decimal of
+//! one to nine digits, the answer is code 11.
 use crate::coerce;
 use crate::value::MetaValue;
 
@@ -26,9 +27,23 @@ pub fn parses(t: &str) -> bool {
     f
 }
 
-/// The integer readings fail, and the float parse behind them succeeds.
+/// An optional sign, one to nine digits in all and at most one point.
+pub fn decimal(t: &str) -> bool {
+    let t = t.strip_prefix(['+', '-']).unwrap_or(t);
+    let digits = t.bytes().filter(u8::is_ascii_digit).count();
+    let points = t.bytes().filter(|b| *b == b'.').count();
+    (1..=9).contains(&digits) && points <= 1 && digits + points == t.len()
+}
+
+/// The float parse succeeds, of a text that is refused.
+fn refused(t: &str) -> bool {
+    assert!(!decimal(t) || parses(t), "{t:?}");
+    parses(t) && !decimal(t)
+}
+
+/// The integer readings fail, and the float parse behind them succeeds and is refused.
 fn reaches_float(t: &str) -> bool {
-    !t.starts_with("0x") && !t.starts_with("0X") && t.parse::<i64>().is_err() && t.parse::<u64>().is_err() && parses(t)
+    !t.starts_with("0x") && !t.starts_with("0X") && t.parse::<i64>().is_err() && t.parse::<u64>().is_err() && refused(t)
 }
 
 pub fn int(v: &MetaValue) -> Fit<u64> {
@@ -43,7 +58,7 @@ pub fn int(v: &MetaValue) -> Fit<u64> {
 
 pub fn float_of(v: &MetaValue) -> Fit<u32> {
     if let MetaValue::Str(s) = v {
-        if parses(s.trim()) {
+        if refused(s.trim()) {
             return float();
         }
     }
@@ -61,8 +76,8 @@ pub fn vec(v: &MetaValue, n: usize) -> Fit<[u32; 4]> {
             }
         }
         MetaValue::Str(s) => {
-            let first = s.split(|c: char| c == ',' || c.is_whitespace()).find(|p| !p.is_empty());
-            if first.map_or(false, parses) {
+            let mut parts = s.split(|c: char| c == ',' || c.is_whitespace()).filter(|p| !p.is_empty());
+            if parts.find(|p| !decimal(p)).map_or(false, parses) {
                 return float();
             }
         }

@@ -13,6 +13,8 @@ pub const TEXTS: &[&str] = &[
     "a", "A", " a", "a b",
     "1.5", "1.", ".5", ".", "-.5e3", "1e5", "1E-7", "1e+", "1e", "e5", "1e5x", "1.2.3", "inf", "-Inf", "+INFINITY", "infinit", "nan", "NaN", "+nan", "nano", "-",
     "1,2", "1,2,3,4,5", "1 2 3", " ,1", "1,x", "x,1", ",", ", ,", ",,", "1.5,x", "x", "0x1,1",
+    "12.5", "-0.0", "5.", "+.5", "0.1", ".000000001", "123456789", "1234567890", "000000000", "000000000.5", "8388608.5", "8388609.5", "1.000000000", "999999999", "-12.9", "-0.9", "257.5", "1.5e0", "+.", "1 .5",
+    "1234567890.5", "0x1.5", "1.5,2.5", " 1.5 \t, 2.5 ,", "1,2,3,4,5,6", "-0 .5", "1.5,2.5,x", "x,nan", "1.5,x,nan", "1,2,3,4,5,x", "1.5,nan,x", "1,2,3,4,5,1e5", "1,2,1234567890", "1.5,FLAG",
     "FLAG", "flag", "FLAG,OTHER", "OTHER FLAG", "FLAG,,\tOTHER,", "1,FLAG", "FLAG,1", "FLAG,none", "none,FLAG", "none", "hash_0A", "FLAG,hash_0A", "TWICE", "HIGH",
     "\t7", "\n7", "\u{b}7", "\u{c}7", "\r7", " 7", "7\t", "7\n", "7\u{b}", "7\u{c}", "7\r", "\u{8}7", "\u{e}7", "\u{1c}7", "\u{1f}7", "\0", "7\0",
     "\tFLAG\u{b}OTHER\u{c}", "FLAG\rOTHER", "FLAG\u{1c}OTHER", "\u{b}true\u{c}", " \t\n\u{b}\u{c}\r",
@@ -50,6 +52,7 @@ pub fn values() -> Vec<MetaValue> {
     let (s, x, fl) = (|| text("1.5"), || text("x"), || text("FLAG"));
     out.extend([array(vec![]), array(vec![n(1)]), array(vec![n(1), n(2)]), array(vec![n(1), n(2), n(3)]), array(vec![n(1), n(2), n(3), n(4)]), array(vec![n(1), n(2), n(3), n(4), x()])]);
     out.extend([array(vec![n(1), n(2), x()]), array(vec![n(1), n(2), s()]), array(vec![x(), s()]), array(vec![s(), x()]), array(vec![Null, Bytes(vec![])]), array(vec![array(vec![n(1)]), n(2)])]);
+    out.extend([array(vec![text("16777217"), text(".25"), text("-0")]), array(vec![text(".25"), x()]), array(vec![text("1.5"), text("4.5")]), array(vec![s(), text("nan"), x()])]);
     out.extend([array(vec![F32(1.5), I64(-3)]), array(vec![text(" "), n(1)]), array(vec![text("true"), n(1)]), array(vec![Struct(MetaStruct::default())])]);
     out.extend([array(vec![fl(), array(vec![text("OTHER"), n(64)])]), array(vec![fl(), text("none"), s()]), array(vec![fl(), s(), text("none")]), array(vec![array(vec![array(vec![])])])]);
     out.extend([array(vec![fl(), array(vec![n(1), text("none")]), s()]), array(vec![text(""), text(","), n(2)]), array(vec![Bytes(vec![])]), array(vec![text("nan")])]);

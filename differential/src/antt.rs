@@ -1,6 +1,7 @@
 //! Cases as theorems that are closed by evaluation, for the crate `cases`.
 use crate::commands::{case_of, file_of};
 use crate::compare;
+use crate::decimals;
 use crate::fixed::Fixed;
 use crate::gen::limits::work_for;
 use crate::gen::{Case, Size};
@@ -169,10 +170,14 @@ fn choose_reads(seed: u64, count: usize) -> Vec<String> {
     out
 }
 
-/// Chains past 32 structures, and demand 3 on those that are built.
-fn roads(dir: &Path, modules: &mut Vec<String>) -> io::Result<()> {
+/// The answer of a case that is the same for every seed.
+fn answer((n, f): (usize, &Fixed)) -> String {
+    format!("-- {}\n{}", f.what, made(n, &f.case, &build(&f.case.sheet, &f.case.schema, &f.case.limits)))
+}
+
+/// Chains past 32 structures, demand 3 on those that are built, and decimals as text.
+fn fixed(dir: &Path, modules: &mut Vec<String>) -> io::Result<()> {
     let (built, others) = (roads::built(), roads::others());
-    let answer = |(n, r): (usize, &Fixed)| format!("-- {}\n{}", r.what, made(n, &r.case, &build(&r.case.sheet, &r.case.schema, &r.case.limits)));
     let made: Vec<String> = built.iter().chain(&others).enumerate().map(answer).collect();
     write_files(dir, "Roads", "Roads", PER_MADE, &made, modules)?;
     let law = |(n, r): (usize, &Fixed)| {
@@ -183,6 +188,9 @@ fn roads(dir: &Path, modules: &mut Vec<String>) -> io::Result<()> {
     let laws: Vec<String> = built.iter().enumerate().map(law).collect();
     write_files(dir, "RoadLaws", "Demand 3 on roads", PER_LAWS, &laws, modules)?;
     println!("{} roads, {} of demand 3", made.len(), laws.len());
+    let typed: Vec<String> = decimals::all().iter().enumerate().map(answer).collect();
+    write_files(dir, "Decimals", "Decimals as text", PER_MADE, &typed, modules)?;
+    println!("{} sheets with decimals as text", typed.len());
     Ok(())
 }
 
@@ -192,7 +200,7 @@ pub fn cases(seed: u64, builds: usize, laws: usize, reads: usize, dir: &str) -> 
     for f in fs::read_dir(dir)? {
         let path = f?.path();
         let name = path.file_name().unwrap().to_string_lossy().to_string();
-        if ["Made", "Laws", "Read", "Roads", "RoadLaws"].iter().any(|p| name.starts_with(p) && name[p.len()..].starts_with(|c: char| c.is_ascii_digit())) {
+        if ["Made", "Laws", "Read", "Roads", "RoadLaws", "Decimals"].iter().any(|p| name.starts_with(p) && name[p.len()..].starts_with(|c: char| c.is_ascii_digit())) {
             fs::remove_file(path)?;
         }
     }
@@ -214,8 +222,8 @@ pub fn cases(seed: u64, builds: usize, laws: usize, reads: usize, dir: &str) -> 
     let reads = choose_reads(seed + 2, reads);
     write_files(dir, "Read", "Files for the reader", PER_READ, &reads, &mut modules)?;
     println!("{} of demand 3, {} files for the reader", laws.len(), reads.len());
-    roads(dir, &mut modules)?;
+    fixed(dir, &mut modules)?;
     fs::write(dir.join("Texts.antt"), crate::antt_texts::texts(seed + 3))?;
     let list: String = modules.iter().map(|m| format!("pub mod {m}\n")).collect();
-    fs::write(dir.join("Lib.antt"), format!("-- Worked cases, closed by evaluation. Made, Laws, Read, Roads, RoadLaws and Texts are written by\n-- `differential/run record cases {seed} crates/cases/specs`, then `rt tidy`.\n{list}"))
+    fs::write(dir.join("Lib.antt"), format!("-- Worked cases, closed by evaluation. Made, Laws, Read, Roads, RoadLaws, Decimals and Texts are written by\n-- `differential/run record cases {seed} crates/cases/specs`, then `rt tidy`.\n{list}"))
 }

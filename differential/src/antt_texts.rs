@@ -15,32 +15,37 @@ use Rattle.conversions.specs.Round.{f32_of}
 use Rattle.conversions.specs.Trunc.{i64_of}
 use Rattle.texts.specs.Text.{trimmed, parts}
 use Rattle.texts.specs.Float.{parses_float}
-use Rattle.coerce.specs.Numbers.{Fit, int_text}
+use Rattle.coerce.specs.Numbers.{Fit, int_text, float_text, vec_text}
 use Rattle.coerce.specs.declared.misfit.Misfit.TheVariants.{Unfit, FloatText}
 use Rattle.names.specs.Names.{hash_text}
 use Rattle.layout.specs.Eval
 
--- whether it is a float, the whole number, the hash, the number of parts
+-- whether it is a float, the whole number, the f32, the four of a vector of two, the hash, the number of parts
 data Reading : Type 0 where
-  reading : ℕ → Fit ℕ → ℕ → ℕ → Reading
+  reading : ℕ → Fit ℕ → Fit ℕ → Fit (List ℕ) → ℕ → ℕ → Reading
 
 read : Bytes → Reading
-read t = reading (cond (parses_float (trimmed t)) 1 0) (int_text (trimmed t)) (hash_text t) (length (parts t))
+read t =
+    reading (cond (parses_float (trimmed t)) 1 0) (int_text (trimmed t)) (float_text (trimmed t)) (vec_text 2 (parts t)) (hash_text t)
+    (length (parts t))
 ";
 
-/// A text as a whole number.
-fn whole(t: &[u8]) -> Fit<u64> {
-    let row = Row { kind: STR, name: 0, a: 0, b: t.len() as u32, c: 0, d: 0 };
-    Sheet::of_text(t).int_of(&row)
+fn fit<T>(x: Fit<T>, show: impl Fn(T) -> String) -> String {
+    match x {
+        Fit::Fits(x) => format!("(Ok {})", show(x)),
+        Fit::Unfit => "(Err Unfit)".to_string(),
+        Fit::FloatText => "(Err FloatText)".to_string(),
+    }
 }
 
 fn reading(t: &[u8]) -> String {
-    let fit = match whole(t) {
-        Fit::Fits(x) => format!("(Ok {x})"),
-        Fit::Unfit => "(Err Unfit)".to_string(),
-        Fit::FloatText => "(Err FloatText)".to_string(),
-    };
-    format!("reading {} {fit} 0x{:X} {}", parses_float(trim(t)) as u32, hash_text(t), parts(t).count())
+    let row = Row { kind: STR, name: 0, a: 0, b: t.len() as u32, c: 0, d: 0 };
+    let sheet = Sheet::of_text(t);
+    let is_float = parses_float(trim(t)) as u32;
+    let whole = fit(sheet.int_of(&row), |x| x.to_string());
+    let single = fit(sheet.float_of(&row), |x| format!("0x{x:X}"));
+    let pair = fit(sheet.vec_of(&row, 2), |v| format!("({})", list(v.iter().map(|x| format!("0x{x:X}")))));
+    format!("reading {is_float} {whole} {single} {pair} 0x{:X} {}", hash_text(t), parts(t).count())
 }
 
 fn number(rng: &mut Rng) -> u64 {

@@ -16,6 +16,10 @@ named! { Way, WAYS:
     Blank "blank text", Null "null", Index16 "16-bit index", Index12 "12-bit index", Sub0 "subtype 0", Sub4 "subtype 4",
     OutOfRange "index out of range", OneMember "one member", SameName "same name", Full "block full", NewBlock "new block",
     OldBlock "old block", Long "longer than a block", ZeroLength "zero length", Repeated "repeated",
+    Decimal "decimal", Tie "halfway between two f32s", MinusZero "minus zero", Fraction "fraction dropped", Item "decimal in an Array",
+    OwnName "decimal that is an entry's name", Part "decimal as a name in a list", NoPart "no part", Few "too few parts",
+    More "more than four parts", Bad "first part no float", BadBehind "part no float behind a decimal", BadFifth "part no float behind the fourth",
+    FloatBehind "11 behind a decimal", FloatFifth "11 behind the fourth part", FloatItem "11 in an Array",
 }
 
 named! { Case, CASES:
@@ -37,6 +41,8 @@ named! { Case, CASES:
     ElVec2 "element vec2", ElVec3 "element vec3", ElVec4 "element vec4", ElVec3A "element vec3a", ElVec4A "element vec4a",
     ElEnum "element enum", ElOther "element other type",
     Item "item filed", Noted "remark noted",
+    TextFloat "text in a float place", TextVector "text in a vector place", TextInt "text in an integer place",
+    TextEnum "text in an enum place", TextFlags "text in a flags place",
 }
 
 use Way::*;
@@ -81,6 +87,11 @@ pub fn ways(case: usize) -> &'static [Way] {
         (Case::ElStringOther, &[Remark]),
         (Case::ElEnum, &[Dropped, FloatText, Known, Unknown, Written, Empty]), (Case::ElOther, &[Remark]),
         (Case::Item, &[NewBlock, OldBlock, Full, Long, ZeroLength]), (Case::Noted, &[Written, Repeated]),
+        (Case::TextFloat, &[Decimal, Tie, MinusZero, FloatText, Wrong]),
+        (Case::TextVector, &[Decimal, NoPart, Few, More, Bad, BadBehind, BadFifth, FloatText, FloatBehind, FloatFifth, Way::Item, FloatItem]),
+        (Case::TextInt, &[Decimal, Fraction, FloatText]),
+        (Case::TextEnum, &[Decimal, Fraction, OwnName, FloatText]),
+        (Case::TextFlags, &[Decimal, Fraction, Part, FloatText, Way::Item, FloatItem]),
     ];
     LIST.iter().find(|(c, _)| *c as usize == case).map_or(&[], |(_, w)| w)
 }

@@ -3,9 +3,10 @@ use crate::bytes::{hex, push_u32, u32_at};
 use crate::gen::Case;
 use crate::model::buffer::Leads;
 use crate::model::reader::{self, Reading};
+use crate::model::number::{f32_of_decimal, i64_of_decimal};
 use crate::model::schema::{next_section, Definitions, PMAP, PSCH, PSIN};
 use crate::model::sheet::{Sheet, STR};
-use crate::model::text::{parses_float, trim};
+use crate::model::text::{decimal, parses_float, parts, trim};
 use crate::model::{build, Limits, Outcome, Pack, GENEROUS};
 use crate::reference_side::{self as reference, Answer};
 use crate::stats::Stats;
@@ -14,7 +15,7 @@ use crate::subject::{difference, expected, Subject};
 /// All checks of a case; what differs, if anything.
 pub fn check(case: &Case, generous: &Outcome, subject: &mut Option<Box<dyn Subject>>, stats: &mut Stats) -> Result<(), String> {
     against_reference(case, generous, stats).map_err(|e| format!("model and reference: {e}"))?;
-    texts(case, stats)?;
+    texts(case, generous.code(), stats)?;
     let limited = build(&case.sheet, &case.schema, &case.limits);
     stats.outcome(generous, &limited);
     consistent(generous, &limited)?;
@@ -44,19 +45,50 @@ fn consistent(generous: &Outcome, limited: &Outcome) -> Result<(), String> {
     if same { Ok(()) } else { Err(format!("model: {g} with generous limits, {l} with its own")) }
 }
 
-/// The grammar of refusal 11 against the parse of the standard library.
-fn texts(case: &Case, stats: &mut Stats) -> Result<(), String> {
+/// The grammar of refusal 11, and the values of decimals, against the parse of the standard library; 11 only where a text is refused.
+fn texts(case: &Case, code: u32, stats: &mut Stats) -> Result<(), String> {
     let Ok(sheet) = Sheet::read(&case.sheet) else { return Ok(()) };
-    for row in sheet.rows.iter().filter(|r| r.kind == STR && r.b < 200) {
-        let t = trim(sheet.text(row));
-        let s = std::str::from_utf8(t).unwrap();
-        let (single, double) = (s.parse::<f32>().is_ok(), s.parse::<f64>().is_ok());
-        if single != parses_float(t) || double != single {
-            return Err(format!("text {s:?} parses as f32: {single}, as f64: {double}, model says {}", parses_float(t)));
+    let mut refused = false;
+    let before = stats.decimals;
+    for row in sheet.rows.iter().filter(|r| r.kind == STR) {
+        if row.b >= 200 {
+            // Too long to be looked at part by part.
+            refused = true;
+            continue;
         }
-        stats.texts += 1;
+        let whole = trim(sheet.text(row));
+        let several = parts(whole).filter(|p| *p != whole);
+        for t in [whole].into_iter().chain(several) {
+            refused |= text(t, stats)?;
+        }
     }
-    Ok(())
+    if stats.decimals > before {
+        stats.decimal_cases[(code == 0) as usize] += 1;
+    }
+    if code == 11 && !refused { Err("11, and no text is refused".into()) } else { Ok(()) }
+}
+
+/// Whether a text is a float and no decimal.
+fn text(t: &[u8], stats: &mut Stats) -> Result<bool, String> {
+    let s = std::str::from_utf8(t).unwrap();
+    let (single, double) = (s.parse::<f32>(), s.parse::<f64>());
+    let (float, found) = (single.is_ok(), decimal(t));
+    if float != parses_float(t) || double.is_ok() != float {
+        return Err(format!("text {s:?} parses as f32: {single:?}, as f64: {double:?}, model says {}", parses_float(t)));
+    }
+    stats.texts += 1;
+    // What parses and has no letter has a sign, digits and a point at most.
+    let short = t.iter().filter(|b| b.is_ascii_digit()).count() <= 9;
+    if found.is_some() != (float && short && !t.iter().any(u8::is_ascii_alphabetic)) {
+        return Err(format!("text {s:?}: to the model it is {found:?}"));
+    }
+    let Some(d) = found else { return Ok(float) };
+    let (bits, number) = (f32_of_decimal(d), i64_of_decimal(d));
+    if single.map(f32::to_bits) != Ok(bits) || double.map(|f| f as i64) != Ok(number) {
+        return Err(format!("decimal {s:?}: the model has {bits:#x} and {number}"));
+    }
+    stats.decimals += 1;
+    Ok(false)
 }
 
 fn against_reference(case: &Case, outcome: &Outcome, stats: &mut Stats) -> Result<(), String> {

@@ -1,4 +1,4 @@
-//! Holds the packer and the reader against the reference and against a model of document 01 with request 2.1.
+//! Holds the packer and the reader against the reference and against a model of document 01 with requests 2.1 and 2.6.
 mod antt;
 mod antt_texts;
 mod bench;
@@ -6,6 +6,7 @@ mod branch;
 mod bytes;
 mod commands;
 mod compare;
+mod decimals;
 mod fixed;
 mod gen;
 mod model;

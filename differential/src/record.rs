@@ -1,6 +1,7 @@
 //! Recorded vectors: cases with their answers, and files with their readings, for the program `vectors`.
 use crate::commands::{case_of, file_of};
 use crate::compare::{check, read_file};
+use crate::decimals;
 use crate::gen::{Case, Size};
 use crate::model::{build, Outcome};
 use crate::roads;
@@ -80,7 +81,7 @@ pub fn vectors(seed: u64, count: usize, dir: &str) -> io::Result<()> {
     }
     println!("{} cases, by code {codes:?}", all.count);
     files(seed, count / 3, &mut all);
-    for fixed in [roads::built(), roads::others(), row_numbers::all()].iter().flatten() {
+    for fixed in [roads::built(), roads::others(), row_numbers::all(), decimals::all()].iter().flatten() {
         all.build(&fixed.case, &build(&fixed.case.sheet, &fixed.case.schema, &fixed.case.limits));
     }
     println!("{} cases and files, {} bytes", all.count, all.input.len());

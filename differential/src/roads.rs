@@ -78,7 +78,7 @@ fn two(first: usize) -> (Vec<u8>, Vec<u8>) {
     let mut members = vec![member(0x41, 0x0C, 0, 0, 0x50), member(0x42, 7, 0, 4, 0)];
     members.rotate_left(first);
     let own = Body::Structure(0, 0, 0, vec![member(0x43, 0x0C, 0, 0, 0x50)]);
-    one(members, vec![(0x42, Tree::text(b"1.5"))], vec![(0x50, own)])
+    one(members, vec![(0x42, Tree::text(b"1e5"))], vec![(0x50, own)])
 }
 
 /// Chains on which demand 3 is recorded too.

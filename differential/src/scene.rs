@@ -119,6 +119,22 @@ fn texts() -> Scene {
     scene("many texts", Tree::Struct(0x40, vec![(0x41, list(2_500)), (0x42, list(2_500))]), plan)
 }
 
+/// Structures with two floats and a vector each, all as text.
+fn decimals() -> Scene {
+    let mut rng = Rng::of(7, 7);
+    let lamp = vec![member(0x51, 9, 0, 0, 0), member(0x52, 7, 0, 16, 0), member(0x53, 7, 0, 20, 0)];
+    let root = vec![member(ARRAYINFO, 0x0C, 0, 0, 0x50), member(0x41, 0x0D, 0, 0, 0)];
+    let plan = Plan::of(vec![(0x40, Body::Structure(0, 16, 0, root)), (0x50, Body::Structure(0, 24, 0, lamp))]);
+    let mut part = |whole: usize| format!("{}.{}", rng.below(whole), rng.below(1_000));
+    let mut lamps = Vec::new();
+    for _ in 0..1_600 {
+        let place = format!("{}, -{}, {}", part(4_000), part(4_000), part(100));
+        let fields = [(0x51, place), (0x52, part(100)), (0x53, part(10))].map(|(m, t)| (m, Tree::Text(t.into_bytes())));
+        lamps.push(Tree::Struct(0x50, fields.to_vec()));
+    }
+    scene("decimals as text", Tree::Struct(0x40, vec![(0x41, Tree::Array(lamps))]), plan)
+}
+
 /// An array of structures 31 deep, each inline in the one before.
 fn nesting() -> Scene {
     let depth = 30u32;
@@ -149,7 +165,7 @@ fn definitions(scene: Scene) -> Scene {
 pub fn scenes() -> Vec<Scene> {
     let many = definitions(map("typical, 5,000 definitions", 40, 20));
     let most = definitions(map("large, 5,000 definitions", 1_050, 500));
-    vec![small(), map("typical scene", 40, 20), map("large scene", 1_050, 500), texts(), nesting(), many, most]
+    vec![small(), map("typical scene", 40, 20), map("large scene", 1_050, 500), texts(), decimals(), nesting(), many, most]
 }
 
 /// A file of 10 MB: data, 4,095 blocks, 500 definitions.

@@ -66,6 +66,9 @@ pub struct Stats {
     pub files: [u64; 19],
     pub files_tested: u64,
     pub texts: u64,
+    pub decimals: u64,
+    /// Cases that have one: refusals, and packs.
+    pub decimal_cases: [u64; 2],
     pub chains: Chains,
     pub explained: BTreeMap<String, Explained>,
     pub hits: Hits,
@@ -93,6 +96,8 @@ impl Stats {
             files: [0; 19],
             files_tested: 0,
             texts: 0,
+            decimals: 0,
+            decimal_cases: [0; 2],
             chains: Chains::default(),
             explained: BTreeMap::new(),
             hits: Hits::new(),
@@ -137,7 +142,8 @@ impl Stats {
         println!("library               {} compared", self.tested);
         println!("read, tiled, rebuilt  {}", self.demand3);
         println!("pointers put          {}, of which {} stand in the pack", self.slots, self.pointing);
-        println!("float texts           {} held against the parse of std", self.texts);
+        println!("float texts           {} held against the parse of std, {} of them decimals", self.texts, self.decimals);
+        println!("cases with decimals   {}, of them packs {}", self.decimal_cases.iter().sum::<u64>(), self.decimal_cases[1]);
         let remarks: Vec<String> = (1..14).map(|k| format!("{k}: {}", self.remarks[k])).collect();
         println!("remarks by kind       {}", remarks.join(", "));
         self.chains.print();

@@ -179,8 +179,11 @@ pub fn long_texts(rng: &mut Rng, _size: Size) -> (Vec<u8>, Vec<u8>) {
         if rng.chance(1, 3) {
             root.push(member(name, 0x0B, 3, 16 * k as u16, 0));
         }
-        let byte = *rng.pick(b"x0 ,");
-        fields.push((name, Tree::Text(vec![byte; length])));
+        if rng.chance(1, 3) {
+            root.push(member(name, *rng.pick(&[6, 7, 8, 0x0A, 0x0A]), 0, 16 * k as u16, 0));
+        }
+        let piece = *rng.pick(&["x", "0", " ", ",", "1 ", "-.5,"]);
+        fields.push((name, Tree::Text(piece.bytes().cycle().take(length).collect())));
     }
     let plan = Plan::of(vec![(0x40, Body::Structure(0, 16 * n as u32, 0, root))]);
     (Tree::Struct(0x40, fields).sheet(), plan.bytes())

@@ -1,6 +1,7 @@
 //! Cases by seed.
 pub mod chain;
 pub mod damage;
+pub mod decimal;
 pub mod edges;
 pub mod files;
 pub mod heavy;
@@ -51,9 +52,10 @@ const fn family(name: &'static str, weight: usize, size: Size, make: fn(&mut Rng
     Family { name, weight, size, make }
 }
 
-pub const FAMILIES: [Family; 21] = [
+pub const FAMILIES: [Family; 22] = [
     family("general", 58_000, Size::Tiny, general),
     family("scalars and texts", 10_000, Size::Tiny, scalars),
+    family("decimals", 8_000, Size::Tiny, decimal::decimals),
     family("chains of structures", 5_000, Size::Tiny, chain::chain),
     family("roads", 3_000, Size::Full, road::road),
     family("levels of the sheet", 800, Size::Small, chain::levels),

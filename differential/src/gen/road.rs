@@ -180,5 +180,5 @@ fn too_far() -> Last {
 
 /// 11.
 fn float_text() -> Last {
-    Last { size: 0, members: vec![member(0x55, 7, 0, 0, 0)], fields: vec![(0x55, Tree::text(b"1.5"))], definitions: Vec::new() }
+    Last { size: 0, members: vec![member(0x55, 7, 0, 0, 0)], fields: vec![(0x55, Tree::text(b"1e5"))], definitions: Vec::new() }
 }

@@ -1,9 +1,10 @@
 //! Texts of all forms.
+use super::decimal::{decimal, DECIMALS};
 use crate::rng::Rng;
 
 /// Words that enums name their entries by.
-pub const WORDS: [&str; 16] = [
-    "a", "b", "red", "Blue", "FLAG_A", "FLAG_B", "true", "x1", "hash_1F", "0x2A", "0x1G", "nanx", "inf_", "-", "1x", "k",
+pub const WORDS: [&str; 17] = [
+    "a", "b", "red", "Blue", "FLAG_A", "FLAG_B", "true", "x1", "hash_1F", "0x2A", "0x1G", "nanx", "inf_", "-", "1x", "k", "1.5",
 ];
 
 const NUMBERS: [&str; 40] = [
@@ -13,15 +14,18 @@ const NUMBERS: [&str; 40] = [
     "0xFFFFFFFFFFFFFFFF", "0x-1", "0x+1", "0x-8000000000000000", "0Xff", "00x1", "+0", "12", "99", "31", "32", "0x20", "-31",
 ];
 
-const NOT_NUMBERS: [&str; 28] = [
+const NOT_NUMBERS: [&str; 36] = [
     "0x", "0X", "0x-", "0x+", "0xG", "0x 1", "0x10000000000000000", "0x-8000000000000001", "-", "+", "--1", "+-1", "1-",
     "1 2", "tru", "truee", "e5", ".", "-.", "+.e1", "1e", "1e+", ".e5", "in", "infinit", "nana", "0x1.5", "1_0",
+    "1.2.3", "..", "+.", "5..", "1 .5", "1,5", "1.5f", ".-5",
 ];
 
-const FLOATS: [&str; 30] = [
-    "1.5", "-1.5", "1.", ".5", "+.5", "1e5", "1E5", "1.e5", ".5e-3", "1e+10", "inf", "-inf", "+INF", "Infinity", "nan",
-    "NaN", "-nan", "9223372036854775808.0", "-9223372036854775809", "18446744073709551616", "99999999999999999999",
-    "00.00", "0e0", "-0.0", "1e999", "1e-999", "+1e1", "3.", "123456789e12", "-18446744073709551615",
+/// Floats that are no decimals of one to nine digits.
+pub const FLOATS: [&str; 32] = [
+    "1e5", "1E5", "1.e5", ".5e-3", "1e+10", "inf", "-inf", "+INF", "Infinity", "nan", "NaN", "-nan", "9223372036854775808.0",
+    "-9223372036854775809", "18446744073709551616", "99999999999999999999", "0e0", "1e999", "1e-999", "+1e1", "123456789e12",
+    "-18446744073709551615", "1.5e0", "-1.5E0", "000000000.5", "1.000000000", "0000000000.", "0.1234567890", "1234567890.5", "-1234567890.",
+    "+12345.67890", "-.0000000001",
 ];
 
 const HASHES: [&str; 18] = [
@@ -35,7 +39,7 @@ fn blanks(rng: &mut Rng) -> Vec<u8> {
 }
 
 /// With blanks around it, now and then.
-fn around(rng: &mut Rng, t: &str) -> Vec<u8> {
+pub fn around(rng: &mut Rng, t: &str) -> Vec<u8> {
     if rng.chance(3, 4) {
         return t.as_bytes().to_vec();
     }
@@ -84,7 +88,7 @@ fn digits(rng: &mut Rng) -> String {
 
 /// Every text that stands in a list here.
 pub fn known() -> Vec<Vec<u8>> {
-    let lists: [&[&str]; 5] = [&WORDS, &NUMBERS, &NOT_NUMBERS, &FLOATS, &HASHES];
+    let lists: [&[&str]; 6] = [&WORDS, &NUMBERS, &NOT_NUMBERS, &FLOATS, &HASHES, &DECIMALS];
     let mut out: Vec<Vec<u8>> = vec![b"".to_vec(), b" ".to_vec(), b"TRUE ".to_vec(), b"\tFalse".to_vec(), b"\x0b\x0c7\r\n".to_vec()];
     for t in lists.concat() {
         if !out.contains(&t.as_bytes().to_vec()) {
@@ -94,13 +98,14 @@ pub fn known() -> Vec<Vec<u8>> {
     out
 }
 
-/// A whole number; `floats` of a hundred parse as floats.
+/// A whole number or a decimal; `floats` of a hundred are refused.
 pub fn number(rng: &mut Rng, floats: usize) -> Vec<u8> {
     if rng.chance(floats, 100) {
         let t = *rng.pick(&FLOATS);
         return around(rng, t);
     }
-    let t = match rng.below(8) {
+    let t = match rng.below(11) {
+        8..=10 => decimal(rng),
         0..=3 => rng.pick(&NUMBERS).to_string(),
         4 | 5 => digits(rng),
         6 => { let w = *rng.pick(&["true", "false"]); random_case(rng, w) }
@@ -145,19 +150,10 @@ pub fn names(rng: &mut Rng) -> Vec<u8> {
     if rng.chance(1, 8) { [blanks(rng), out, blanks(rng)].concat() } else { out }
 }
 
-/// Numbers parted by commas and blanks.
-pub fn vector(rng: &mut Rng) -> Vec<u8> {
-    let mut out = Vec::new();
-    for _ in 0..rng.small(5) {
-        out.extend_from_slice(rng.pick(&["x", "1", "1.5", "-", "nan", "0x1", "e", "2,", " "]).as_bytes());
-        out.extend_from_slice(rng.pick(&[",", " ", ", ", ",,"]).as_bytes());
-    }
-    out
-}
-
 /// A text of any form.
 pub fn text(rng: &mut Rng, floats: usize) -> Vec<u8> {
-    match rng.below(8) {
+    match rng.below(9) {
+        8 => decimal(rng).into_bytes(),
         0 => number(rng, floats),
         1 => no_number(rng),
         2 => hash(rng),

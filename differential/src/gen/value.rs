@@ -1,4 +1,5 @@
 //! Values that fit the members of a schema, or don't, by a given share.
+use super::decimal;
 use super::text;
 use super::tree::{Tree, NULL_LEAF};
 use crate::model::schema::{Member, Schema, Structure};
@@ -6,7 +7,7 @@ use crate::model::sheet::*;
 use crate::model::write::ARRAYINFO;
 use crate::rng::Rng;
 
-/// Of a hundred: wrong values, missing members, texts that parse as floats, texts instead of numbers.
+/// Of a hundred: wrong values, missing members, texts of numbers that are refused with 11, texts instead of numbers.
 #[derive(Clone, Copy)]
 pub struct Habit {
     pub wrong: usize,
@@ -130,17 +131,17 @@ impl Values<'_> {
     }
 
     fn real(&mut self) -> Tree {
-        let floats = self.habit.floats;
-        if self.chance(floats) {
-            return Tree::Text(text::number(self.rng, floats));
+        let Habit { texts, floats, wrong, .. } = self.habit;
+        if self.chance(texts) {
+            return Tree::Text(decimal::real(self.rng, floats, wrong / 2));
         }
         if self.rng.chance(1, 2) { float(self.rng) } else { number(self.rng) }
     }
 
     fn vec(&mut self, n: usize) -> Tree {
-        let floats = self.habit.floats;
-        if self.chance(floats) {
-            return Tree::Text(text::vector(self.rng));
+        let Habit { texts, floats, wrong, .. } = self.habit;
+        if self.chance(texts / 2) {
+            return Tree::Text(decimal::list(self.rng, n, floats, wrong));
         }
         if self.rng.chance(1, 3) {
             let count = if self.rng.chance(1, 4) { self.rng.below(7) } else { n };

@@ -1,7 +1,8 @@
 //! Members that lead to no other structure: numbers, vectors, texts, enums, flags.
 use super::buffer::Buffer;
 use super::coerce::Fit;
-use super::sheet::{Row, ARRAY, F32, HASH, I64, U64, VEC2, VEC4};
+use super::sheet::{Row, ARRAY, F32, HASH, I64, STR, U64, VEC2, VEC4};
+use super::text::{decimal, parts, trim};
 use super::trace::{From, Note};
 use super::write::{named_size, scalar_case, scalar_size, At, Writer};
 use crate::branch::{Case, Place, Way};
@@ -28,15 +29,18 @@ impl<'a> Writer<'a> {
         match ty {
             0x07 => {
                 self.state.hits.value(Place::Float, row.kind);
+                self.count_float(row);
                 self.sheet.float_of(row).map(|x| floats(&[x]))
             }
             0x08 | 0x09 | 0x0A | 0x14 | 0x15 => {
                 self.state.hits.value(Place::Vector, row.kind);
                 let n = scalar_size(ty) / 4;
+                self.count_vector(row, n);
                 self.sheet.vec_of(row, n).map(|v| floats(&v[..n]))
             }
             _ => {
                 self.state.hits.value(Place::Int, row.kind);
+                self.count_whole(Case::TextInt, row);
                 let n = scalar_size(ty);
                 self.sheet.int_of(row).map(|x| {
                     let mut b = [0; 16];
@@ -44,6 +48,14 @@ impl<'a> Writer<'a> {
                     b
                 })
             }
+        }
+    }
+
+    /// A vector's text is read to its end, part by part.
+    pub fn step_parts(&mut self, ty: u8, value: Option<usize>) -> Result<(), u32> {
+        match ty {
+            0x08 | 0x09 | 0x0A | 0x14 | 0x15 if self.row(value).kind == STR => self.state.step(self.sheet.most_names(value) / 4),
+            _ => Ok(()),
         }
     }
 
@@ -56,6 +68,7 @@ impl<'a> Writer<'a> {
                 let given = match row.kind {
                     ARRAY => self.sheet.children(&row).len(),
                     VEC2..=VEC4 => (row.kind - VEC2) as usize + 2,
+                    STR => parts(self.sheet.text(&row)).count(),
                     _ => 0,
                 };
                 if given > scalar_size(ty) / 4 {
@@ -69,7 +82,12 @@ impl<'a> Writer<'a> {
     /// Notes a number that so many bytes do not hold, or a fraction.
     pub fn note_number(&mut self, bytes: usize, from: From) {
         let row = self.row(from.row);
-        if row.kind == F32 && has_fraction(row.a) {
+        let fraction = match row.kind {
+            F32 => has_fraction(row.a),
+            STR => decimal(trim(self.sheet.text(&row))).is_some_and(|d| d.has_fraction()),
+            _ => false,
+        };
+        if fraction {
             self.state.trace.note(Note::Fraction, from);
         }
         if matches!(self.sheet.int_of(&row), Fit::Fits(x) if !holds(x, bytes)) {
@@ -113,6 +131,7 @@ impl<'a> Writer<'a> {
             self.state.hits.hit(case, Way::Missing);
         }
         let row = self.row(at.value);
+        self.step_parts(ty, at.value)?;
         let fit = self.scalar_bytes(ty, &row);
         let from = self.from_float(&fit, at.from(), |r| matches!(self.sheet.float_of(r), Fit::FloatText));
         let Some(b) = self.settled(case, fit, from)? else { return self.wrong(at, case) };
@@ -229,6 +248,7 @@ impl<'a> Writer<'a> {
         let row = self.seen(at, case, Place::Enum);
         let entries = self.entries(m.reference);
         self.step_entries(entries, at.value)?;
+        self.count_enum(&row, entries);
         let fit = self.sheet.enum_value(&row, entries);
         self.named(at, case, m.reference, fit, buf)
     }
@@ -254,6 +274,7 @@ impl<'a> Writer<'a> {
         let row = self.seen(at, case, Place::Flags);
         let entries = self.entries(name);
         self.step_entries(entries, at.value)?;
+        self.count_flags(&row, entries);
         let fit = self.sheet.flags_bits(&row, entries);
         let is = |r: &Row| matches!(self.sheet.flags_bits(r, entries), Fit::FloatText);
         let from = self.from_float(&fit, at.from(), is);

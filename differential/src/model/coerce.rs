@@ -1,5 +1,5 @@
 //! A row read as what a member wants: a value, unfit, or a float text (refusal 11).
-use super::number::{f32_of_i64, i64_of_f32};
+use super::number::{f32_of_decimal, f32_of_i64, i64_of_decimal, i64_of_f32};
 use super::sheet::*;
 use super::text::*;
 
@@ -33,8 +33,28 @@ fn entry(entries: Entries, name: u32) -> Option<u32> {
     entries.iter().find(|e| e.0 == name).map(|e| e.1)
 }
 
-fn float_text<T>(t: &[u8]) -> Fit<T> {
-    if parses_float(t) { FloatText } else { Unfit }
+/// A text that a float parse is tried on: a decimal as `read` takes it, any other float text is refused.
+fn float_text<T>(t: &[u8], read: impl FnOnce(Decimal) -> T) -> Fit<T> {
+    match decimal(t) {
+        Some(d) => Fits(read(d)),
+        None if parses_float(t) => FloatText,
+        None => Unfit,
+    }
+}
+
+/// The first four of a list of numbers, by their bits. The first that fails decides; then they are counted.
+fn four<T>(list: impl Iterator<Item = Fit<T>>, bits: impl Fn(T) -> u32, wanted: usize) -> Fit<[u32; 4]> {
+    let (mut out, mut count) = ([0; 4], 0);
+    for fit in list {
+        match fit {
+            Fits(x) if count < 4 => out[count] = bits(x),
+            Fits(_) => {}
+            Unfit => return Unfit,
+            FloatText => return FloatText,
+        }
+        count += 1;
+    }
+    if count >= wanted { Fits(out) } else { Unfit }
 }
 
 /// A trimmed text as a whole number: hexadecimal behind a mark, else decimal, else a float.
@@ -44,7 +64,7 @@ fn number_text(t: &[u8]) -> Fit<u64> {
     }
     match whole(t, 10) {
         Some(x) => Fits(x),
-        None => float_text(t),
+        None => float_text(t, |d| i64_of_decimal(d) as u64),
     }
 }
 
@@ -75,7 +95,7 @@ impl Sheet<'_> {
     pub fn float_of(&self, row: &Row) -> Fit<u32> {
         match row.kind {
             F32 => Fits(row.a),
-            STR => float_text(trim(self.text(row))),
+            STR => float_text(trim(self.text(row)), f32_of_decimal),
             _ => self.int_of(row).map(|x| f32_of_i64(x as i64)),
         }
     }
@@ -87,20 +107,9 @@ impl Sheet<'_> {
             VEC2 => Fits([row.a, row.b, 0, 0]),
             VEC3 => Fits([row.a, row.b, row.c, 0]),
             VEC4 => Fits([row.a, row.b, row.c, row.d]),
-            ARRAY => {
-                let mut out = [0; 4];
-                let items = self.children(row);
-                for (k, r) in items.clone().take(4).enumerate() {
-                    match self.float_of(&self.rows[r]) {
-                        Fits(x) => out[k] = x,
-                        Unfit => return Unfit,
-                        FloatText => return FloatText,
-                    }
-                }
-                if items.len() >= wanted { Fits(out) } else { Unfit }
-            }
-            // Parts are parsed one by one: the first that parses refuses, the first that fails ends it.
-            STR => parts(self.text(row)).next().map_or(Unfit, float_text),
+            // Of an Array four items are looked at, of a text all parts.
+            ARRAY => four(self.children(row).take(4).map(|r| self.float_of(&self.rows[r])), |x| x, wanted),
+            STR => four(parts(self.text(row)).map(|p| float_text(p, |d| d)), f32_of_decimal, wanted),
             _ => Unfit,
         }
     }

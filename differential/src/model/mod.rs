@@ -1,9 +1,10 @@
-//! Document 01 with request 2.1, written a second time: the exact answer for every input.
+//! Document 01 with requests 2.1 and 2.6, written a second time: the exact answer for every input.
 pub mod assemble;
 pub mod buffer;
 pub mod cells;
 pub mod coerce;
 pub mod compound;
+pub mod decimals;
 pub mod effort;
 pub mod nest;
 pub mod number;

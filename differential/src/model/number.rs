@@ -1,4 +1,6 @@
-//! f32 and whole numbers, on bits.
+//! f32, whole numbers and decimals, on bits.
+use super::text::Decimal;
+use std::cmp::Ordering;
 
 /// The bits of the f32 nearest to a signed number of 64 bits, ties to even.
 pub fn f32_of_i64(x: i64) -> u32 {
@@ -37,4 +39,48 @@ pub fn i64_of_f32(bits: u32) -> i64 {
     let shift = exponent - 127 - 23;
     let m = if shift >= 0 { significand << shift } else { significand >> -shift };
     if minus { -(m as i64) } else { m as i64 }
+}
+
+/// The patterns of 2^-37 and 2^30: every decimal but 0 lies between them.
+const ENDS: (u32, u32) = (90 << 23, 157 << 23);
+
+/// 2^60 times the f32 of a pattern that is not below 2^-37.
+fn scaled(pattern: u32) -> u128 {
+    ((pattern & 0x7F_FFFF | 0x80_0000) as u128) << ((pattern >> 23) - 90)
+}
+
+/// The pattern of the greatest f32 that is not above digits / 10^places, and how the way up to the next one compares with
+/// the way down. The digits are not zero. Greater patterns are greater f32s, and nothing is rounded.
+fn beside(digits: u64, places: u32) -> (u32, Ordering) {
+    let (exact, unit) = ((digits as u128) << 60, 10u128.pow(places));
+    let (mut low, mut high) = ENDS;
+    while high - low > 1 {
+        let middle = low + (high - low) / 2;
+        *(if scaled(middle) * unit <= exact { &mut low } else { &mut high }) = middle;
+    }
+    (low, (scaled(high) * unit - exact).cmp(&(exact - scaled(low) * unit)))
+}
+
+/// The bits of the f32 nearest to a decimal, ties to even.
+pub fn f32_of_decimal(d: Decimal) -> u32 {
+    let sign = if d.minus { 1u32 << 31 } else { 0 };
+    if d.digits == 0 {
+        return sign;
+    }
+    match beside(d.digits, d.places) {
+        (low, Ordering::Less) => sign | (low + 1),
+        (low, Ordering::Equal) => sign | (low + low % 2),
+        (low, Ordering::Greater) => sign | low,
+    }
+}
+
+/// Whether a decimal is halfway between two f32s.
+pub fn is_tie(d: Decimal) -> bool {
+    d.digits != 0 && beside(d.digits, d.places).1 == Ordering::Equal
+}
+
+/// A decimal toward zero.
+pub fn i64_of_decimal(d: Decimal) -> i64 {
+    let m = (d.digits / 10u64.pow(d.places)) as i64;
+    if d.minus { -m } else { m }
 }

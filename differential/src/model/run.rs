@@ -74,6 +74,7 @@ impl<'a> Writer<'a> {
         let mut run = self.begin(at, case, stride, items.len())?;
         for r in items {
             let from = self.element(at, r)?;
+            self.step_parts(ty, Some(r))?;
             let fit = self.scalar_bytes(ty, &self.sheet.rows[r]);
             let culprit = self.from_float(&fit, from, |r| matches!(self.sheet.float_of(r), Fit::FloatText));
             let Some(b) = self.settled(case, fit, culprit)? else { return self.drop_run(at, case, r) };
@@ -217,6 +218,7 @@ impl<'a> Writer<'a> {
             self.step_entries(entries, from.row)?;
             let row = &self.sheet.rows[r];
             self.state.hits.value(Place::Enum, row.kind);
+            self.count_enum(row, entries);
             let fit = self.sheet.enum_value(row, entries);
             let Some(x) = self.settled(case, fit, from)? else { return self.drop_run(at, case, r) };
             self.note_named(4, from);

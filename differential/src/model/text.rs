@@ -95,7 +95,7 @@ fn after_sign(t: &[u8]) -> &[u8] {
     }
 }
 
-/// Refusal 11: an `f32` or `f64` parse of the text would succeed.
+/// An `f32` or `f64` parse of the text would succeed: refusal 11, unless the text is a decimal.
 pub fn parses_float(t: &[u8]) -> bool {
     let t = after_sign(t);
     if ["inf", "infinity", "nan"].iter().any(|w| is_word(t, w)) {
@@ -117,6 +117,34 @@ pub fn parses_float(t: &[u8]) -> bool {
             !e.is_empty() && after_digits(e).is_empty()
         }
         _ => false,
+    }
+}
+
+/// digits / 10^places, below zero where `minus`; a zero may have the sign too.
+#[derive(Clone, Copy, Debug, PartialEq)]
+pub struct Decimal {
+    pub minus: bool,
+    pub digits: u64,
+    pub places: u32,
+}
+
+/// An optional sign, one to nine digits in all and at most one point.
+pub fn decimal(t: &[u8]) -> Option<Decimal> {
+    let number = after_sign(t);
+    let point = number.iter().position(|b| *b == b'.').unwrap_or(number.len());
+    let (front, behind) = (&number[..point], number.get(point + 1..).unwrap_or(&[]));
+    let digits = || front.iter().chain(behind);
+    if !(1..=9).contains(&digits().count()) || !digits().all(u8::is_ascii_digit) {
+        return None;
+    }
+    let value = digits().fold(0, |n, d| n * 10 + (d - b'0') as u64);
+    Some(Decimal { minus: t[0] == b'-', digits: value, places: behind.len() as u32 })
+}
+
+impl Decimal {
+    /// Something is left out where it is taken toward zero.
+    pub fn has_fraction(&self) -> bool {
+        self.digits % 10u64.pow(self.places) != 0
     }
 }
 

@@ -33,7 +33,7 @@ pub enum Note {
     Repeated,
     /// A number that its member's width does not hold.
     Narrowed,
-    /// A float whose fraction is dropped.
+    /// A float, or a decimal typed as text, whose fraction is dropped.
     Fraction,
     /// More numbers than the vector holds.
     Extra,
@@ -64,7 +64,7 @@ pub enum Why {
     Charge { charge: u64, cost: u64 },
     /// 10: the block's name, its number and the start.
     Block { name: u32, number: usize, start: u64 },
-    /// 11: a text that a float parse takes.
+    /// 11: a text that a float parse takes and that is no decimal.
     FloatText,
 }
 
