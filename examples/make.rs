@@ -234,11 +234,11 @@ fn hall() -> (Vec<u8>, Vec<u8>) {
 /// The segments of the road.
 const SEGMENTS: u32 = 40;
 
-/// A segment of the road with all that follow it: each points to the next one.
+/// A segment of the road with all that follow it: each points to the next one. The length of every fifth is typed as text.
 fn segment(number: u32) -> Value {
     let mut members = vec![
         (name("id"), Hash(name(&format!("segment_{number:02}")))),
-        (name("length"), F32(if number % 5 == 0 { 12.5 } else { 25.0 })),
+        (name("length"), if number % 5 == 0 { Str("12.5") } else { F32(25.0) }),
     ];
     if number < SEGMENTS {
         members.push((name("next"), segment(number + 1)));

@@ -36,7 +36,8 @@ extern "C" {
  *       the root, and a structure by pointer, in a run or as a map's pair, has depth 1
  *    9  the charge would pass its cap
  *   10  an item's block number would be above 4,095, or its start above 0xFFFFF
- *   11  a text that would have to be read as a floating-point number
+ *   11  a floating-point text other than a decimal of one to nine digits: one with an exponent, inf, infinity, nan, or
+ *       ten digits or more (but where an integer is due whole numbers of up to 64 bits are read)
  *   12  work is shorter than 65,536 + 8 x i, i being the index entries of all PSCH sections
  *   13  the file is longer than the output or than 16,777,216
  *   14  one more distinct remark than records

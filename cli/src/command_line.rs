@@ -14,6 +14,10 @@ Exit status: 0 success, 1 refused or failed, 2 wrong use.
 const PACK_NOTES: &str = "\
 A remark is a fault in the scene that does not stop packing; its line starts with 'remark:'. A line
 that starts with 'note:' tells of a value, or a part of one, that is left out without a remark.
+A text may stand for a number as a decimal like \"12.5\": a sign or none, one to nine digits, a point or
+none. A float is the nearest one to it. An integer, an enum or a flag set takes it without its fraction,
+and takes whole numbers of up to 64 bits too. A vector's text has several. Other text that reads as a
+floating-point number is refusal 11.
 With --json one object is printed: \"packs\", a list with an object for each sheet (sheet, pack, code,
 message, length, blocks, definitions, remarks, notes), then \"packed\", \"refused\" and \"failed\", how many
 sheets are so. code is 0 or the refusal's number, and null where it was not the library that stopped.

@@ -57,6 +57,7 @@ impl<'a> Packing<'a> {
         match code {
             9 if self.work < self.most => Some(format!("--work gives more room, {} is the most", self.most)),
             9 => Some("the scene is too large for one pack".into()),
+            11 => Some("write it with nine digits at most and no exponent, or give a number".into()),
             12 => Some(format!("--work must be {} or more", self.least)),
             14 => Some(format!("there are {} records; use --records with more", commas(self.o.records as u64))),
             _ => None,

@@ -4,6 +4,7 @@ use crate::scene::Scene;
 use crate::sheet::{Sheet, STR};
 use crate::words::commas;
 use sandvurek_model::model::state::MAX_BLOCKS;
+use sandvurek_model::model::text::{decimal, parses_float, parts, trim};
 use sandvurek_model::model::trace::{From, Why};
 
 /// "row 5, structure 0x40, member 0x41"; the root is no member.
@@ -36,9 +37,14 @@ pub fn place(scene: &Scene, sheet: &[u8], names: &Names) -> Option<String> {
     Some(format!("{here}: {text}"))
 }
 
-/// The text of a row.
+/// The text that is a float and no decimal: a row's, or a part of it where it is a vector's.
 fn text(from: From, sheet: &[u8]) -> Option<String> {
     let sheet = Sheet::of(sheet).ok()?;
     let row = sheet.rows.get(from.row?).filter(|r| r.kind == STR)?;
-    Some(format!("\"{}\"", sheet.text(row).escape_ascii()))
+    let text = sheet.text(row);
+    if parses_float(trim(text)) {
+        return Some(format!("\"{}\"", text.escape_ascii()));
+    }
+    let (k, part) = parts(text).enumerate().find(|(_, p)| decimal(p).is_none())?;
+    Some(format!("part {} of its text is \"{}\"", commas(k as u64 + 1), part.escape_ascii()))
 }

@@ -48,7 +48,7 @@ pub fn refusal(code: u32) -> &'static str {
         8 => "a structure would start at depth 33, inline in 32 others",
         9 => "the charge would pass its cap",
         10 => "an item's block number would be above 4,095, or its start above 0xFFFFF",
-        11 => "a text reads as a decimal number where a number is wanted",
+        11 => "a floating-point text other than a decimal of one to nine digits",
         12 => "the work area is too short",
         13 => "the file is longer than the output or than 16,777,216 bytes",
         14 => "there are more different remarks than records",

@@ -110,8 +110,8 @@ run 1 accept "$t/hurt" --sheet "$t/none.sheet"
 has out "FAIL  pointers followed: row 1, structure 0x40, member 0x41: byte 24 of the file (block 1, start 0x8) says counts 1 and 0; 0 and 0 are due"
 
 # Where building is refused, the names of the blocks are due all the same.
-cp "$hall.sheet" "$t/decimal.sheet"; poke "$t/decimal.sheet" "$(place "$hall.sheet" bright)" 061 062 056 065 060 060
-by_name() { run 1 accept "$t/hurt" --sheet "$t/decimal.sheet"; has out "refusal 11"; has out "$1"; }
+cp "$hall.sheet" "$t/float.sheet"; poke "$t/float.sheet" "$(place "$hall.sheet" bright)" 061 062 056 065 145 060
+by_name() { run 1 accept "$t/hurt" --sheet "$t/float.sheet"; has out "refusal 11"; has out "$1"; }
 cp "$hall.pso" "$t/hurt"; by_name "pass  pointers followed: 13 pointers, by the names of their blocks alone"
 hurt 327 3; by_name "FAIL  pointers followed: $entrance block 3, start 0x0, of name 0xC8FDDC97; name 0x26A06AAC is due"
 hurt 325 1; by_name "FAIL  pointers followed: $entrance block 2, start 0x10; 16 bytes are due there, 0 are left"

@@ -28,6 +28,10 @@ tried() {
 
 sheet=$e/case1/case1.sheet schema=$e/case1/case1.schema
 : >"$t/empty"
+# A lamp's power as text: a decimal, and a float's text that is none.
+for bytes in "decimal 060" "float 145"; do
+    cp "$e/hall/hall.sheet" "$t/${bytes% *}"; poke "$t/${bytes% *}" "$(place "$e/hall/hall.sheet" bright)" 061 062 056 065 "${bytes#* }" 060
+done
 # Definitions behind a section of 16 MiB.
 { printf 'NONE\001\000\000\000'; head -c 16777208 /dev/zero; cat "$schema"; } >"$t/long"
 for program in $programs; do
@@ -35,6 +39,7 @@ for program in $programs; do
     tried 0 "$e/hall/hall.sheet" "$e/hall/hall.schema" "$t/$program.hall"; same "$t/$program.hall" "$e/hall/hall.pso"
     has err "remark 2: structure 0xC8FDDC97, member 0x9F5ED20C, detail 3"
     tried 0 "$e/road/road.sheet" "$e/road/road.schema" "$t/$program.road"; empty err; same "$t/$program.road" "$e/road/road.pso"
+    tried 0 "$t/decimal" "$e/hall/hall.schema" "$t/$program.decimal"; empty err
     tried 0 "$sheet" "$t/long" "$t/$program.long"; same "$t/$program.long" "$e/case1/case1.pso"
     tried 2 "$sheet" "$schema"; has err "pack SHEET SCHEMA OUT"
 
@@ -43,6 +48,7 @@ for program in $programs; do
     tried 1 "$t/empty" "$schema" "$t/none"; has err "$t/empty: refusal 1"
     tried 1 "$t/long" "$schema" "$t/none"; has err "$t/long: refusal 1"
     tried 1 "$sheet" "$sheet" "$t/none"; has err "$sheet: refusal 4"
+    tried 1 "$t/float" "$e/hall/hall.schema" "$t/none"; has err "$t/float: refusal 11"
     tried 1 "$sheet" "$t/empty" "$t/none"; has err "$sheet with $t/empty: refusal 7"
     tried 1 "$t/missing" "$schema" "$t/none"; has err "$t/missing: No such file or directory"
     tried 1 "$sheet" "$t/missing" "$t/none"; has err "$t/missing: No such file or directory"

@@ -126,6 +126,11 @@ fn flags(size: &Size) -> Vec<u8> {
     alone(&schema(&[(0x40, 0)], &[structure(16, &equal(0x41, 0x0F00_0000, 0, size.members()))]))
 }
 
+/// Vectors that are one text: all its parts are read for each.
+fn parts(n: u32) -> Vec<u8> {
+    alone(&schema(&[(0x40, 0)], &[structure(16, &equal(0x41, 0x0800_0000, 0, n))]))
+}
+
 /// Structures of many names, each with members that are not supported: each one a remark.
 fn remarks(size: &Size) -> Vec<u8> {
     let types: Vec<[u32; 3]> = (0..size.members()).map(|n| [0x1_0000 + n, 0x1100_0000, 0]).collect();
@@ -207,6 +212,12 @@ fn repeats() -> Vec<(&'static str, Vec<u8>)> {
         ("infos", two([root(65_000), infos])),
         ("used", alone(&schema(&names, &[structure(16, &runs), structure(0, &[])]))),
         ("rounds", two([structure(16, &rounds), structure(4, &remarked)])),
+        ("parts", parts(MEMBERS)),
+        ("fewer_parts", parts(2_600)),
+        (
+            "parts.sheet",
+            [words(&[2]), row(21, 0, [0x40, 1, 1, 0]), row(15, 0x41, [0, 65_534, 0, 0]), b"1,".repeat(32_767)].concat(),
+        ),
         ("rounds.sheet", [words(&[16_003]), row(21, 0, [0x40, 1, 2, 0]), children.concat(), numbers].concat()),
     ]
 }

@@ -54,7 +54,7 @@ mkdir "$t/some"; "$tools/hostile" "$t/some" 20
 bounded 2 some/remarks accept "$t/some/remarks" --sheet "$t/some/types.sheet"; has out "has more than 65,536 different remarks"
 bounded 2 staggered accept "$t/staggered" --sheet "$t/first.sheet"; has out "takes too many steps to be laid"
 # So is what the library would look for from the front.
-for shape in children:children lacking:one entries:entries noted:one infos:many used:many rounds:rounds; do
+for shape in children:children lacking:one entries:entries noted:one infos:many used:many rounds:rounds parts:parts; do
     bounded 2 "${shape%:*}" accept "$t/${shape%:*}" --sheet "$t/${shape#*:}.sheet"; has out "takes too many steps to be laid"
 done
 bounded 1 behind accept "$t/behind" --sheet "$t/one.sheet"
@@ -73,10 +73,11 @@ packs() {
 }
 long="takes too many steps; --no-limit packs it all the same"
 for shape in children:children lacking:one behind:one entries:entries noted:one flags:numbers remarks:types \
-    staggered:first infos:many used:many rounds:rounds; do
+    staggered:first infos:many used:many rounds:rounds parts:parts; do
     packs 1 "${shape#*:}.sheet" "${shape%:*}" "$long"
 done
 packs 0 many.sheet faults "packed"
+packs 0 parts.sheet fewer_parts "note: "
 packs 1 many.sheet members "refusal 9: "
 packs 1 deep.sheet deep "refusal 8: "
 for shape in sections maps shared staggered enums.schema; do packs 1 one.sheet $shape "refusal 7: "; done

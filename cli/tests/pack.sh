@@ -70,17 +70,18 @@ has err "(row 0, the root: 0 are charged, 20 more would be, the cap is 0; --work
 refuse 12 "$e/case1/case1.sheet" $case1 --work 65543; has err "--work must be 65544 or more"
 run 0 pack "$e/case1/case1.sheet" $case1 --work 65624 -o "$t/tight.pso"; same "$t/tight.pso" "$e/case1/case1.pso"
 run 0 pack "$e/case1/case1.sheet" $case1 --work 999999999999 -o "$t/wide.pso"; same "$t/wide.pso" "$e/case1/case1.pso"
-hurt "$e/hall/hall.sheet" "$(place "$e/hall/hall.sheet" bright)" 061 062 056 065 060 060
-refuse 11 "$t/hurt" $hall; has err 'row 44, structure 0xC8FDDC97, member 0x9F5ED20C: "12.500"'
+hurt "$e/hall/hall.sheet" "$(place "$e/hall/hall.sheet" bright)" 061 062 056 065 145 060
+refuse 11 "$t/hurt" $hall; has err "hurt: refusal 11: a floating-point text other than a decimal of one to nine digits ("
+has err '(row 44, structure 0xC8FDDC97, member 0x9F5ED20C: "12.5e0"; write it with nine digits at most and no exponent, or give a number)'
 refuse 14 "$e/hall/hall.sheet" $hall --records 0; has err "there are 0 records; use --records with more"
 run 0 pack "$e/hall/hall.sheet" $hall --records 1 -o "$t/one.pso"; same "$t/one.pso" "$e/hall/hall.pso"
 
-# Of an Array it is the item that reads so.
+# Of an Array it is the item that is one.
 . cli/tests/scene.sh
-member "0x0F 0 0 0"; holds "19 0x41 2 2" "15 0 0 1" "19 0 4 2" "7 0 1" "15 0 1 3"; printf 21.5 >>"$t/a.sheet"
-refuse 11 "$t/a.sheet" --schema "$t/a.schema"; has err '(row 5, structure 0x40, member 0x41: "1.5")'
-member "8 0 0 0"; holds "19 0x41 2 2" "7 0 1" "15 0 0 1"; printf 2 >>"$t/a.sheet"
-refuse 11 "$t/a.sheet" --schema "$t/a.schema"; has err '(row 3, structure 0x40, member 0x41: "2")'
+member "0x0F 0 0 0"; holds "19 0x41 2 2" "15 0 0 1" "19 0 4 2" "7 0 1" "15 0 1 3"; printf 21e5 >>"$t/a.sheet"
+refuse 11 "$t/a.sheet" --schema "$t/a.schema"; has err '(row 5, structure 0x40, member 0x41: "1e5"; '
+member "8 0 0 0"; holds "19 0x41 2 2" "7 0 1" "15 0 0 3"; printf nan >>"$t/a.sheet"
+refuse 11 "$t/a.sheet" --schema "$t/a.schema"; has err '(row 3, structure 0x40, member 0x41: "nan"; '
 
 # Large scenes: more blocks than pointers reach, a pack that is too long, more remarks than records.
 "$tools/large" "$t"

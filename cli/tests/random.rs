@@ -34,14 +34,15 @@ fn main() {
     let (sheet, schema, pack) = (path("sheet"), path("schema"), path("pso"));
     let (mut made, mut bare, mut wrong) = (0, 0, Vec::new());
     for case in 0.. {
-        if made == count {
+        if made == count && bare == count / 3 {
             break;
         }
         let size = if case % 4 == 0 { Size::Small } else { Size::Tiny };
         let (_, t, s) = inputs(&mut Rng::of(2_026, case), size);
         let Ok(built) = build(&t, &s, &GENEROUS).answer else { continue };
         let whole = complete(&t, &built.file);
-        if built.file.len() < 200 || built.remarks.len() > 4_096 || (!whole && bare == count / 3) {
+        let enough = if whole { made == count } else { bare == count / 3 };
+        if built.file.len() < 200 || built.remarks.len() > 4_096 || enough {
             continue;
         }
         fs::write(&sheet, &t).and_then(|()| fs::write(&schema, &s)).expect("a file");

@@ -50,7 +50,7 @@ fn needless() -> (Vec<u8>, Vec<u8>) {
     )
 }
 
-/// A text that reads as a decimal number (11), and behind it more than the charge allows (9); with a pack of its root.
+/// A text that is a float and no decimal (11), and behind it more than the charge allows (9); with a pack of its root.
 fn stopped() -> (Vec<u8>, Vec<u8>) {
     let list = [row(21, 0, [0x40, 1, 2, 0]), row(15, 0x41, [0, 3, 0, 0]), row(19, 0x42, [3, 9, 0, 0])].concat();
     let items = row(21, 0, [0x50, 12, 0, 0]).repeat(9);
@@ -58,7 +58,7 @@ fn stopped() -> (Vec<u8>, Vec<u8>) {
     let psch = schema(&[(0x40, 0), (0x50, 1)], &[structure(16, &members), structure(600_000, &[])]);
     let pmap = section(b"PMAP", &words(&[1, 0x1_7070, 0x40, 16, 0, 16]));
     let pack = [section(b"PSIN", &[0; 24]), pmap, psch].concat();
-    ([words(&[12]), list, items, b"1.5".to_vec()].concat(), pack)
+    ([words(&[12]), list, items, b"1e5".to_vec()].concat(), pack)
 }
 
 /// Fifty names for one structure.

@@ -48,7 +48,7 @@ done
 run 0 accept --help; has out "Give --schema: without it definitions cannot be compared with the schema file's."
 has out "2 wrong use, or it could not be checked"
 run 0 pack --help; for o in --schema --output --work --records --strict --names --json --quiet; do has out "$o"; done
-run 0 pack --help; has out "--no-limit"
+run 0 pack --help; has out "--no-limit"; has out 'a decimal like "12.5": a sign or none, one to nine digits'
 run 0 --version; has out "sandvurek 0."; empty err; cp "$t/out" "$t/version"
 run 0 -V; same "$t/out" "$t/version"
 
