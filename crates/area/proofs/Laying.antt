@@ -1,6 +1,6 @@
 -- An item is laid. Assumes nothing.
 use mathlib.Core.Path.{◌≡◌, sym, ap, ◌∙◌}
-use mathlib.Core.Bool.{true, false}
+use mathlib.Core.Bool.{Bool}
 use mathlib.Core.List.{List, [], ◌∷◌, ◌++◌, append_assoc, append-nil}
 use Prim.Native.Nat.{ℕ, suc, ◌+◌, ◌-◌, ◌*◌, ◌^◌, ◌≤◌, ◌<◌}
 use native.Mathlib.Omega.{arith}
@@ -8,13 +8,14 @@ use lib.ListN.{length, length-append}
 use Rattle.numbers.specs.Words.{Bytes, words, over}
 use Rattle.numbers.proofs.Bytes.{length_words}
 use Rattle.schema.specs.Defs.{Schema}
-use Rattle.layout.specs.State.{Item, Spot, State, done, stop, spot, pointer_at, file, pointer_to, add_item_c, settle, on_core, add_item}
+use Rattle.layout.specs.State.{Item, Spot, State, spot, pointer_at, file}
+use Rattle.layout.proofs.Laying.{laid_in}
 use Rattle.area.specs.declared.Round.{Round}
 use Rattle.area.specs.declared.Progress.{Progress}
 use Rattle.area.specs.Segments.{Segment, flat}
 use Rattle.area.specs.Kept.{kept, rows_bytes}
 use Rattle.area.specs.Area.{rows_of, encode, stack_at, Rep, with_item, headed}
-use Rattle.area.specs.Posts.{Safe, lies}
+use Rattle.area.specs.Posts.{Safe}
 use Rattle.area.proofs.Flat as flat
 use Rattle.area.proofs.Spots.{length_rows_of, rows_of_snoc, Filed, inside, behind, spot_small, spot_start}
 
@@ -23,19 +24,6 @@ encode_snoc : (is : List Item) (i : Item) → encode (is ++ (i ∷ [])) ≡ enco
 unfolding encode
 encode_snoc [] i = ap (λ (x : Bytes). words (i.block ∷ i.start ∷ length i.bytes ∷ 0 ∷ []) ++ x) (append-nil i.bytes)
 encode_snoc (j ∷ is) i = rw (encode_snoc is i) (simp append_assoc)
-
--- the core with it
-abbrev pub laid_in : ℕ → Bytes → State → State
-laid_in name b s = record { core = file b (pointer_at (spot name (length b) s.core.blocks)) s.core (spot name (length b) s.core.blocks); charge = s.charge; events = s.events; uses = s.uses }
-
-pub add_fits : (name : ℕ) (b : Bytes) (s : State) → lies (spot name (length b) s.core.blocks) ≡ true
-    → add_item name b s ≡ done (pointer_to (suc (spot name (length b) s.core.blocks).before) (spot name (length b) s.core.blocks).start) (laid_in name b s)
-unfolding add_item on_core settle add_item_c
-add_fits name b s e = rw e
-
-pub add_none : (name : ℕ) (b : Bytes) (s : State) → lies (spot name (length b) s.core.blocks) ≡ false → add_item name b s ≡ stop 10 s.events
-unfolding add_item on_core settle add_item_c
-add_none name b s e = rw e
 
 -- the area with the blocks bs, the items' bytes a and the stack σ in the place of those of the state
 abbrev pub area_with : Round → ℕ → State → Bytes → Bytes → Bytes → Bytes
@@ -93,19 +81,19 @@ module _ (R : Round) (n : ℕ) (p : Progress) (w : Bytes) (safe : Safe R n p) (S
       ∙ ap (λ (x : Bytes). area_with R n s (rows_of q.blocks) x σ) (append_assoc (encode s.core.items) (head_of q) b)
 
   -- the item is laid, and τ is the stack
-  pub rep_laid : (b τ w' : Bytes) (count top : ℕ) → length b ≡ len → name < 256 ^ 4 → len < 2 ^ 31
-      → w' ≡ area_with R n s (rows_of (spot name len s.core.blocks).blocks) (encode s.core.items ++ (head_of (spot name len s.core.blocks) ++ b)) τ
-      → count ≡ length (spot name len s.core.blocks).blocks → top ≡ stack_at R + length τ
-      → Rep S R n (laid_in name b s) τ (with_item p count (p.end + (16 + len)) top) w'
+  pub rep_laid : (alone : Bool) (b τ w' : Bytes) (count top : ℕ) → length b ≡ len → name < 256 ^ 4 → len < 2 ^ 31
+      → w' ≡ area_with R n s (rows_of (spot alone name len s.core.blocks).blocks) (encode s.core.items ++ (head_of (spot alone name len s.core.blocks) ++ b)) τ
+      → count ≡ length (spot alone name len s.core.blocks).blocks → top ≡ stack_at R + length τ
+      → Rep S R n (laid_in alone name b s) τ (with_item p count (p.end + (16 + len)) top) w'
   unfolding file
-  rep_laid b τ w' count top lb h l e f g =
-      let q = spot name len s.core.blocks in
+  rep_laid alone b τ w' count top lb h l e f g =
+      let q = spot alone name len s.core.blocks in
       let x : encode (s.core.items ++ (record { pointer = pointer_at q; block = suc q.before; start = q.start; bytes = b } ∷ [])) ≡ encode s.core.items ++ (head_of q ++ b) =
       encode_snoc s.core.items (record { pointer = pointer_at q; block = suc q.before; start = q.start; bytes = b })
       ∙ ap (λ (k : ℕ). encode s.core.items ++ (words (suc q.before ∷ q.start ∷ k ∷ 0 ∷ []) ++ b)) lb in
       let m : length (head_of q ++ b) ≡ 16 + len = length-append (head_of q) b ∙ omega (arith, length_words (suc q.before ∷ q.start ∷ len ∷ 0 ∷ [])) in
       let y : length (encode s.core.items ++ (head_of q ++ b)) ≡ length (encode s.core.items) + (16 + len) = length-append (encode s.core.items) (head_of q ++ b) ∙ ap (λ (k : ℕ). length (encode s.core.items) + k) m in
-      let z : q.start ≤ 0x100000 = spot_start name len s.core.blocks in
+      let z : q.start ≤ 0x100000 = spot_start alone name len s.core.blocks in
       rw lb
       record {
         work = rw x e;
@@ -119,7 +107,7 @@ module _ (R : Round) (n : ℕ) (p : Progress) (w : Bytes) (safe : Safe R n p) (S
         seen = rep.seen;
         next = rep.next;
         tiny = rep.tiny;
-        small = spot_small name len s.core.blocks h rep.small (omega arith);
+        small = spot_small alone name len s.core.blocks h rep.small (omega arith);
         struct_names = rep.struct_names;
         enum_names = rep.enum_names;
         known = record { structs_once = rep.known.structs_once; enums_once = rep.known.enums_once; structs_known = rep.known.structs_known; enums_known = rep.known.enums_known };

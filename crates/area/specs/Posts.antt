@@ -1,12 +1,12 @@
 -- The contracts' parts, with names.
-use Rattle.std.specs.Prelude.{◌≡◌, ℕ, suc, ◌+◌, ◌-◌, ◌*◌, ◌≤◌, ◌<◌, Bool, true, cond, ◌&&◌, ◌||◌, List, [], ◌∷◌, ◌++◌, ltb, leb, length, take, drop, is_some, Result, Ok, Err}
+use Rattle.std.specs.Prelude.{◌≡◌, ℕ, ◌+◌, ◌-◌, ◌*◌, ◌≤◌, ◌<◌, Bool, true, false, cond, ◌||◌, List, [], ◌∷◌, ◌++◌, ltb, leb, length, take, drop, is_some, Result, Ok, Err}
 use Rattle.numbers.specs.Words.{Bytes, bytes_of, over, zeros}
 use Rattle.numbers.specs.Refusal.{number_of}
 use Rattle.numbers.specs.declared.refusal.Refusal.{Refusal}
 use Rattle.numbers.specs.declared.refusal.Refusal.TheVariants.{BlockLimit, Charge}
 use Rattle.schema.specs.Defs.{Schema, winning}
 use Rattle.layout.specs.State as layout
-use Rattle.layout.specs.State.{Remark, State, with_remark, contains, spot, pointer_at, add_item, Out, done, stop}
+use Rattle.layout.specs.State.{Remark, State, with_remark, contains, spot, pointer_at, lies, lay_item, add_item, Out, done, stop}
 use Rattle.area.specs.declared.Round.{Round}
 use Rattle.area.specs.declared.Progress.{Progress}
 use Rattle.area.specs.declared.Spot.{Spot}
@@ -150,16 +150,16 @@ Meets S R n stack fits (done a s) (refuses m p) w = ⊥
 Meets S R n stack fits (stop m es) (gives x p) w = ⊥
 Meets S R n stack fits (stop m es) (refuses k p) w = (k ≡ m) × Stopped S R n es p w
 
--- the first block of the name with room for `need` bytes, of the n whose rows stand in the area; else behind the last
-pub record Finds (w : Bytes) (n name need : ℕ) (r : Spot) : Type 0 where
+-- the first block of the name with room for `need` bytes, of the n whose rows stand in the area; else behind the last, and alone always there
+pub record Finds (alone : Bool) (w : Bytes) (n name need : ℕ) (r : Spot) : Type 0 where
   pub before : r.before ≤ n
   pub start : r.start ≤ 0x100000
-  pub is : (r.before ≡ (spot name need (blocks_in w 0 n)).before) × (r.start ≡ (spot name need (blocks_in w 0 n)).start)
+  pub is : (r.before ≡ (spot alone name need (blocks_in w 0 n)).before) × (r.start ≡ (spot alone name need (blocks_in w 0 n)).start)
 
 -- where an item of the name with `need` bytes goes, if its pointer has room for the block's number and the start; else refusal 10
-abbrev pub Places : Bytes → ℕ → ℕ → ℕ → Result Spot Refusal → Type 0
-Places w n name need (Ok r) = Finds w n name need r × (r.before < 4095) × (r.start ≤ 0xFFFFF)
-Places w n name need (Err e) = (r : Spot) × Finds w n name need r × (r.before < 4095 → 0xFFFFF < r.start) × (e ≡ BlockLimit)
+abbrev pub Places : Bool → Bytes → ℕ → ℕ → ℕ → Result Spot Refusal → Type 0
+Places alone w n name need (Ok r) = Finds alone w n name need r × (r.before < 4095) × (r.start ≤ 0xFFFFF)
+Places alone w n name need (Err e) = (r : Spot) × Finds alone w n name need r × (r.before < 4095 → 0xFFFFF < r.start) × (e ≡ BlockLimit)
 
 -- how many blocks there are with an item in the block behind k others
 abbrev pub blocks_with : ℕ → ℕ → ℕ
@@ -181,10 +181,6 @@ abbrev pub Enlarged : Progress → ℕ → ℕ → Ans ℕ → Type 0
 Enlarged p len to (gives x q) = Larger p len to q
 Enlarged p len to (refuses k q) = (k ≡ 10) × (q ≡ p)
 
--- 10: "an item's block number would be above 4,095, or its start above 0xFFFFF"
-abbrev pub lies : layout.Spot → Bool
-lies s = leb (suc s.before) 4095 && leb s.start 0xFFFFF
-
 -- an item of `len` bytes at the spot s: its head stands behind the other items, and `put` puts its bytes behind that; where there is no place for it, nothing is done
 abbrev pub laid_at : Progress → Bytes → ℕ → ℕ → ℕ → (Bytes → Bytes) → layout.Spot → Ans ℕ × Bytes
 laid_at p w name len top put s =
@@ -196,19 +192,23 @@ laid_at p w name len top put s =
 abbrev pub moved : Progress → ℕ → Bytes → Bytes
 moved p len x = over (over x (p.end + 16) (take len (drop (p.top - len) x))) (p.top - len) (zeros len)
 
--- they are an item of the name, whatever stands in the area
-unfoldable pub lay_in : Progress → Bytes → ℕ → ℕ → Ans ℕ × Bytes
-lay_in p w name len = laid_at p w name len (p.top - len) (moved p len) (spot name len (blocks_in w 0 p.blocks))
+-- they are an item of the name, alone in a new last block, whatever stands in the area
+unfoldable pub lay_in : Bool → Progress → Bytes → ℕ → ℕ → Ans ℕ × Bytes
+lay_in alone p w name len = laid_at p w name len (p.top - len) (moved p len) (spot alone name len (blocks_in w 0 p.blocks))
 
 -- a text is an item of the name 1; the item's last byte, behind the text, is left as it stands
 unfoldable pub lay_text_in : Progress → Bytes → Bytes → Ans ℕ × Bytes
-lay_text_in p w t = laid_at p w 1 (length t + 1) p.top (λ x. over x (p.end + 16) t) (spot 1 (length t + 1) (blocks_in w 0 p.blocks))
+lay_text_in p w t = laid_at p w 1 (length t + 1) p.top (λ x. over x (p.end + 16) t) (spot false 1 (length t + 1) (blocks_in w 0 p.blocks))
 
--- the top `len` bytes of the stack are laid as an item of the name
-pub record Lays (R : Round) (n : ℕ) (p : Progress) (w : Bytes) (name len : ℕ) (r : Ans ℕ) (w' : Bytes) : Type 0 where
+-- the top `len` bytes of the stack are laid as an item of the name; alone, in a new last block
+pub record LaysItem (alone : Bool) (R : Round) (n : ℕ) (p : Progress) (w : Bytes) (name len : ℕ) (r : Ans ℕ) (w' : Bytes) : Type 0 where
   pub grew : Enlarged p len (p.top - len) r
-  pub says : (S : Schema) (s : State) (σ b : Bytes) → length b ≡ len → Rep S R n s (σ ++ b) p w → Meets S R n (λ _. σ) (λ a x. a ≡ x) (add_item name b s) r w'
-  pub exact : (r, w') ≡ lay_in p w name len
+  pub says : (S : Schema) (s : State) (σ b : Bytes) → length b ≡ len → Rep S R n s (σ ++ b) p w → Meets S R n (λ _. σ) (λ a x. a ≡ x) (lay_item alone name b s) r w'
+  pub exact : (r, w') ≡ lay_in alone p w name len
+
+-- .. in the first block with room
+abbrev pub Lays : Round → ℕ → Progress → Bytes → ℕ → ℕ → Ans ℕ → Bytes → Type 0
+Lays R n p w name len r w' = LaysItem false R n p w name len r w'
 
 -- bytes are laid as an item of block 1, with a closing zero byte
 pub record LaysText (R : Round) (n : ℕ) (p : Progress) (w : Bytes) (t : Bytes) (r : Ans ℕ) (w' : Bytes) : Type 0 where

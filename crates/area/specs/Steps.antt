@@ -1,5 +1,5 @@
 -- What each function of an area says of it before and after, by the contracts' parts.
-use Rattle.std.specs.Prelude.{◌≡◌, ℕ, length, Result}
+use Rattle.std.specs.Prelude.{◌≡◌, ℕ, length, Result, Bool, false}
 use Rattle.numbers.specs.Words.{Bytes}
 use Rattle.numbers.specs.declared.refusal.Refusal.{Refusal}
 use Rattle.layout.specs.State.{Remark}
@@ -37,9 +37,13 @@ Pays a cost = Step (λ R n p w. P.Pays R n p w cost) a
 abbrev pub Falls : Area → ℕ → Area → Type 0
 Falls a base = Change (λ R n p w. P.Fell p base w) a
 
--- the top `len` bytes of the stack are laid as an item of the name
+-- the top `len` bytes of the stack are laid as an item of the name; alone, in a new last block
+abbrev pub LaysItem : Bool → Area → ℕ → ℕ → Result ℕ Refusal → Area → Type 0
+LaysItem alone a name len = Step (λ R n p w. P.LaysItem alone R n p w name len) a
+
+-- .. in the first block with room
 abbrev pub Lays : Area → ℕ → ℕ → Result ℕ Refusal → Area → Type 0
-Lays a name len = Step (λ R n p w. P.Lays R n p w name len) a
+Lays a name len = LaysItem false a name len
 
 -- bytes are laid as an item of block 1, with a closing zero byte
 abbrev pub LaysText : Area → Bytes → Result ℕ Refusal → Area → Type 0

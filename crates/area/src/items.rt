@@ -1,5 +1,5 @@
-// Laid items: each goes to the first block of its name with room, else to a new last block.
-ghost use Rattle.std.specs.Prelude.{◌≡◌, ◌+◌, ◌*◌, ◌≤◌, ◌<◌, ◌^◌, length};
+// Laid items: each goes to the first block of its name with room, else to a new last block; alone, to a new last block always.
+ghost use Rattle.std.specs.Prelude.{false, ◌≡◌, ◌+◌, ◌*◌, ◌≤◌, ◌<◌, ◌^◌, length};
 ghost use Rattle.area.specs.Area.{items_at, stack_at, with_item, headed};
 ghost use Rattle.area.specs.Posts.{Finds, Places, blocks_with};
 
@@ -12,7 +12,7 @@ use numbers::words::{copy, read};
 // A loop that returns and no `find`: the block's length is looked at and handed on. `need < 2 ^ 40`: a bound of one call's number.
 fn spot(work: &[u8], n: usize, name: u32, need: usize) -> Spot
     requires { (n ≤ 4095) × (need < 2 ^ 40) }
-    ensures { Finds work.now n name need result }
+    ensures { Finds false work.now n name need result }
 {
     for k in 0..n {
         if read::<u32>(work, 8 * k) == name {
@@ -62,33 +62,53 @@ impl Progress {
 }
 
 impl Area<'_> {
-    ghost use Rattle.area.specs.Steps.{Lays, LaysText};
+    ghost use Rattle.area.specs.Steps.{LaysItem, Lays, LaysText};
 
-    // Where an item of the name with `need` bytes goes; refused where the block's number or the start would be too large. `need < 2 ^ 40` as at `spot`.
-    fn place(&self, name: u32, need: usize) -> Result<Spot, Refusal>
+    // Where an item of the name with `need` bytes goes, alone behind all blocks; refused where the block's number or the start would be too
+    // large. `need < 2 ^ 40` as at `spot`. A call for each item would be seen in a scene's time.
+    #[inline(always)]
+    #[tactic(auto, using(crate::proofs::Spots::finds_alone))]
+    fn place(&self, alone: bool, name: u32, need: usize) -> Result<Spot, Refusal>
         requires { need < 2 ^ 40 }
-        ensures { Places self.now.bytes.now self.now.progress.blocks name need result }
+        ensures { Places alone self.now.bytes.now self.now.progress.blocks name need result }
     {
-        let at = spot(self.bytes, self.progress.blocks, name, need);
+        let blocks = self.progress.blocks;
+        let at = if alone {
+            Spot {
+                before: blocks,
+                start: 0,
+            }
+        } else {
+            spot(self.bytes, blocks, name, need)
+        };
         if 4095 <= at.before || 0xFFFFF < at.start {
             return Err(Refusal::BlockLimit);
         }
         Ok(at)
     }
 
-    // Lays the top `len` bytes of the stack as an item of the name.
-    pub fn lay(&mut self, name: u32, len: usize) -> Result<u32, Refusal>
+    // Lays the top `len` bytes of the stack as an item of the name; alone, in a new last block.
+    pub fn lay_item(&mut self, alone: bool, name: u32, len: usize) -> Result<u32, Refusal>
         requires { (self.old.progress.end + (16 + len) ≤ items_at self.old.round + self.old.progress.charge)
             × (stack_at self.old.round + len ≤ self.old.progress.top) }
-        ensures { Lays self.old name len result self.new }
+        ensures { LaysItem alone self.old name len result self.new }
     {
         let p = self.progress;
-        let Spot { before, start } = self.place(name, len)?;
+        let Spot { before, start } = self.place(alone, name, len)?;
         let from = p.top - len;
         put_head(self.bytes, p.end, name, before, start, len);
         shift(self.bytes, from, p.end + 16, len);
         self.progress = p.filed(before, p.end + (16 + len), from);
         Ok((before + 1 + start * 4096) as u32)
+    }
+
+    // Lays the top `len` bytes of the stack as an item of the name, in the first block of it with room, else in a new last one.
+    pub fn lay(&mut self, name: u32, len: usize) -> Result<u32, Refusal>
+        requires { (self.old.progress.end + (16 + len) ≤ items_at self.old.round + self.old.progress.charge)
+            × (stack_at self.old.round + len ≤ self.old.progress.top) }
+        ensures { Lays self.old name len result self.new }
+    {
+        self.lay_item(false, name, len)
     }
 
     // Lays a text with its closing zero byte.
@@ -98,7 +118,7 @@ impl Area<'_> {
     {
         let p = self.progress;
         let n = text.len();
-        let Spot { before, start } = self.place(blocks::STRING, n + 1)?;
+        let Spot { before, start } = self.place(false, blocks::STRING, n + 1)?;
         put_head(self.bytes, p.end, blocks::STRING, before, start, n + 1);
         copy(self.bytes, p.end + 16, text);
         self.progress = p.filed(before, p.end + (16 + (n + 1)), p.top);

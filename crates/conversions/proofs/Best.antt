@@ -1,4 +1,4 @@
--- The pattern that `mag_of` gives is nearest among all patterns, and at a tie its last digit is even. Assumes nothing.
+-- A fraction between two patterns: the nearer one, and at a tie the even one, is nearest among all patterns. Assumes nothing.
 use mathlib.Core.Path.{◌≡◌, ap, ◌∙◌, subst}
 use mathlib.Core.Bool.{Bool, true, false, cond}
 use mathlib.Core.Logic.{⊎_elim}

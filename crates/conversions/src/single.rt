@@ -1,4 +1,4 @@
-// f32 bit patterns: from a whole number, and to one. The steps on bits are a rule of the project: no f32 is computed with.
+// f32 bit patterns: from a whole number or a fraction, and to a whole number. The steps on bits are a rule of the project: no f32 is computed with.
 ghost use Rattle.std.specs.Prelude.{◌≡◌, ◌≤◌, ◌+◌, ◌<◌, ◌*◌, ◌%◌, ◌^◌, pos, ◌-ℤ◌, ◌*ℤ◌};
 ghost use Rattle.std.proofs.Math.IntN.{sub_ℕ};
 ghost use Rattle.conversions.specs.Single.{value};

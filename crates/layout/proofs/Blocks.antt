@@ -4,6 +4,7 @@ use Prim.Native.Nat.{ℕ, suc, ◌-◌, ◌≤◌}
 use native.Mathlib.Omega.{arith}
 use mathlib.Core.Path.{subst}
 use mathlib.Core.List.{List, [], ◌∷◌}
+use mathlib.Core.Bool.{Bool}
 use lib.ListN.{length}
 use borrow.Author.Tests.{leb-true}
 use Rattle.numbers.specs.Words.{Bytes, Octets}
@@ -23,15 +24,15 @@ pub record Numbered (c : Core) : Type 0 where
 
 -- where an item goes
 
-spot_most : (n need : ℕ) (bs : List Block) (k : ℕ) → length bs ≤ k → suc (spot n need bs).before ≤ k → length (spot n need bs).blocks ≤ k
-spot_most n need [] k h g = unfold spot in omega (arith, g)
-spot_most n need (b ∷ bs) k h g =
-    spot_case (λ p. suc p.before ≤ k → length p.blocks ≤ k) n need b bs (λ q. omega (arith, h))
-    (λ q. omega (arith, spot_most n need bs (k - 1) (omega (arith, h)) (omega (arith, q)), h, q)) g
+spot_most : (alone : Bool) (n need : ℕ) (bs : List Block) (k : ℕ) → length bs ≤ k → suc (spot alone n need bs).before ≤ k → length (spot alone n need bs).blocks ≤ k
+spot_most alone n need [] k h g = unfold spot in omega (arith, g)
+spot_most alone n need (b ∷ bs) k h g =
+    spot_case alone (λ p. suc p.before ≤ k → length p.blocks ≤ k) n need b bs (λ q. omega (arith, h))
+    (λ q. omega (arith, spot_most alone n need bs (k - 1) (omega (arith, h)) (omega (arith, q)), h, q)) g
 
-spot_names : (n need : ℕ) (bs : List Block) → Short n → ShortNames bs → ShortNames (spot n need bs).blocks
-spot_names n need [] h f = unfold spot in (h, tt)
-spot_names n need (b ∷ bs) h f = spot_case (λ p. ShortNames p.blocks) n need b bs (h, f.1) (f.0, spot_names n need bs h f.1)
+spot_names : (alone : Bool) (n need : ℕ) (bs : List Block) → Short n → ShortNames bs → ShortNames (spot alone n need bs).blocks
+spot_names alone n need [] h f = unfold spot in (h, tt)
+spot_names alone n need (b ∷ bs) h f = spot_case alone (λ p. ShortNames p.blocks) n need b bs (h, f.1) (f.0, spot_names alone n need bs h f.1)
 
 -- names
 
@@ -42,11 +43,11 @@ numbered_prims : (E : Env) → Fits E.defs → Named E.defs → Prims E (on_core
 unfolding use_struct_c use_enum_c file
 numbered_prims E f w =
     core_prims Short Numbered E (short E f w) (λ d c k q. record { names = q.names; most = q.most }) (λ n c e q. record { names = q.names; most = q.most })
-    (λ n bs c h a b q.
-    record { names = spot_names n (length bs) c.blocks h q.names; most = spot_most n (length bs) c.blocks 4095 q.most (leb-true _ _ a) })
+    (λ alone n bs c h a b q.
+    record { names = spot_names alone n (length bs) c.blocks h q.names; most = spot_most alone n (length bs) c.blocks 4095 q.most (leb-true _ _ a) })
 
 -- of every layout
-pub numbered : (T S : Bytes) (work : ℕ) (l : Laid) → Made T S work l → Octets S → Numbered l.state.core
+pub numbered : {alone : Bool} (T S : Bytes) (work : ℕ) (l : Laid) → Made alone T S work l → Octets S → Numbered l.state.core
 numbered T S work l m o =
     reached T S work l m (on_core Short Numbered) (numbered_prims (env_of T m.schema work) (winning_fits S m.schema o m.schema_is) (named_winning m.schema))
     (record { names = tt; most = omega arith })

@@ -39,7 +39,7 @@ given_ok : {A : Type 0} (Q : Core → Type 0) (b : Bool) (r : A × Core) → (b 
 given_ok Q true r q = q refl
 given_ok Q false r q = tt
 
-both : (a b : Bool) → (a && b) ≡ true → (a ≡ true) × (b ≡ true)
+pub both : (a b : Bool) → (a && b) ≡ true → (a ≡ true) × (b ≡ true)
 both true b e = (refl, e)
 both false b e = absurd (false≢true e)
 
@@ -82,23 +82,23 @@ module _ (N : ℕ → Type 0) (Q : Core → Type 0) where
   c_use_enum n h = k_bind (on_core N Q) _ _ (c_log_enum n) (λ u. c_core (State.use_enum_c n) 0 h)
 
   -- the item goes to a block that has a number, at a start that has a place in a pointer
-  pub add_item_c_ok : (n : ℕ) (bs : Bytes) (c : Core)
-      → (leb (suc (spot n (length bs) c.blocks).before) 4095 ≡ true → leb (spot n (length bs) c.blocks).start 0xFFFFF ≡ true
-      → Q (file bs (pointer_at (spot n (length bs) c.blocks)) c (spot n (length bs) c.blocks)))
-      → OkC Q (State.add_item_c n bs c)
-  unfolding State.add_item_c
-  add_item_c_ok n bs c q =
-      let p = spot n (length bs) c.blocks in
+  pub lay_item_c_ok : (alone : Bool) (n : ℕ) (bs : Bytes) (c : Core)
+      → (leb (suc (spot alone n (length bs) c.blocks).before) 4095 ≡ true → leb (spot alone n (length bs) c.blocks).start 0xFFFFF ≡ true
+      → Q (file bs (pointer_at (spot alone n (length bs) c.blocks)) c (spot alone n (length bs) c.blocks)))
+      → OkC Q (State.lay_item_c alone n bs c)
+  unfolding State.lay_item_c
+  lay_item_c_ok alone n bs c q =
+      let p = spot alone n (length bs) c.blocks in
       given_ok {A = ℕ} Q (leb (suc p.before) 4095 && leb p.start 0xFFFFF) (pointer_at p, file bs (pointer_at p) c p)
       (λ e. let t : (leb (suc p.before) 4095 ≡ true) × (leb p.start 0xFFFFF ≡ true) = both _ _ e in q t.0 t.1)
 
   pub core_prims : (E : Env) → Allows E N → ((d : StructDef) (c : Core) → Defined E d → Q c → OkC Q (State.use_struct_c d.name c))
       → ((n : ℕ) (c : Core) → is_some (E.defs.enum n) ≡ true → Q c → OkC Q (State.use_enum_c n c))
-      → ((n : ℕ) (bs : Bytes) (c : Core) → N n
-      → leb (suc (spot n (length bs) c.blocks).before) 4095 ≡ true → leb (spot n (length bs) c.blocks).start 0xFFFFF ≡ true
-      → Q c → Q (file bs (pointer_at (spot n (length bs) c.blocks)) c (spot n (length bs) c.blocks)))
+      → ((alone : Bool) (n : ℕ) (bs : Bytes) (c : Core) → N n
+      → leb (suc (spot alone n (length bs) c.blocks).before) 4095 ≡ true → leb (spot alone n (length bs) c.blocks).start 0xFFFFF ≡ true
+      → Q c → Q (file bs (pointer_at (spot alone n (length bs) c.blocks)) c (spot alone n (length bs) c.blocks)))
       → Prims E (on_core N Q)
-  unfolding State.add_item
+  unfolding State.lay_item
   core_prims E al hs hu ha =
       record {
         starts = Defined E;
@@ -107,7 +107,7 @@ module _ (N : ℕ → Type 0) (Q : Core → Type 0) where
         pay_keeps = c_pay E;
         struct_keeps = λ d k. c_use_struct d.name (λ c q. hs d c k q);
         enum_keeps = λ n e. c_use_enum n (λ c q. hu n c e q);
-        add_keeps = λ n bs u. c_core (State.add_item_c n bs) 10 (λ c q. add_item_c_ok n bs c (λ a b. ha n bs c u a b q));
+        add_keeps = λ alone n bs u. c_core (State.lay_item_c alone n bs) 10 (λ c q. lay_item_c_ok alone n bs c (λ a b. ha alone n bs c u a b q));
         found = λ n d e. ((n, e), al.found n d e);
         named = al.named;
         small = al.small;

@@ -3,6 +3,7 @@
 use Prim.Native.Nat.{ℕ, ◌≤◌}
 use native.Mathlib.Omega.{arith}
 use mathlib.Core.Path.{◌≡◌, refl, sym, ◌∙◌, ap, subst}
+use mathlib.Core.Bool.{Bool}
 use lib.ListN.{length, take}
 use lib.Seq.{take-append_seam}
 use Rattle.numbers.specs.Words.{Bytes, Octets}
@@ -24,8 +25,8 @@ use Rattle.layout.proofs.ReadBack.{reads, reads_used, data_at_front_law, data_fi
 use Rattle.layout.proofs.Rebuild.{rebuilds}
 
 -- of the file of a layout
-laid_holds : (T S : Bytes) (work out records : ℕ) (l : Laid) → Octets S → layout T S work records ≡ ok l → length (packed l).file ≤ out → length (packed l).file ≤ 16777216
-    → Demand3 T S work out records (packed l).file
+laid_holds : {alone : Bool} (T S : Bytes) (work out records : ℕ) (l : Laid) → Octets S → layout alone T S work records ≡ ok l
+    → length (packed l).file ≤ out → length (packed l).file ≤ 16777216 → Demand3 alone T S work out records (packed l).file
 unfolding read_back
 laid_holds T S work out records l o e short small =
     let m = made T S work records l e in
@@ -57,12 +58,12 @@ laid_holds T S work out records l o e short small =
     }
 
 -- of what was built
-built_holds : (T S : Bytes) (work out records : ℕ) (b : Built) → Octets S → build T S work out records ≡ ok b → Demand3 T S work out records b.file
+built_holds : {alone : Bool} (T S : Bytes) (work out records : ℕ) (b : Built) → Octets S → build alone T S work out records ≡ ok b → Demand3 alone T S work out records b.file
 unfolding build
-built_holds T S work out records b o f =
-    let (l, e, g) = then_ok (layout T S work records) _ b f in
-    let (q, short, small) = built T S work out records l b e f in
-    subst (λ x. Demand3 T S work out records x.file) q (laid_holds T S work out records l o e short small)
+built_holds {alone} T S work out records b o f =
+    let (l, e, g) = then_ok (layout alone T S work records) _ b f in
+    let (q, short, small) = built alone T S work out records l b e f in
+    subst (λ x. Demand3 alone T S work out records x.file) q (laid_holds T S work out records l o e short small)
 
 -- a call that answers success has built
 succeeded : (work : ℕ) (out : Bytes) (records n m : ℕ) (r : Result Built) → (afterwards work out records r).answer ≡ success n m
@@ -78,6 +79,6 @@ succeeded work out records n m (refused k) e = let z : ◌≡◌ {A = ℕ} 0 1 =
 -- demand 3
 pub every_pack : EveryPack
 unfolding build_pso
-every_pack T S work out records n m o e =
-    let (b, f, q, g) = succeeded work out records n m (build T S work (length out) records) e in
-    (ap length g ∙ q, subst (λ F. Demand3 T S work (length out) records F) (sym g) (built_holds T S work (length out) records b o f))
+every_pack alone T S work out records n m o e =
+    let (b, f, q, g) = succeeded work out records n m (build alone T S work (length out) records) e in
+    (ap length g ∙ q, subst (λ F. Demand3 alone T S work (length out) records F) (sym g) (built_holds T S work (length out) records b o f))

@@ -15,7 +15,7 @@ use borrow.Author.Tests.{leb-true, le-leb, eq-eqb}
 use Rattle.numbers.specs.Words.{Bytes, over}
 use Rattle.value.specs.Rows.{Value}
 use Rattle.schema.specs.Defs.{StructDef, Member, Lookup}
-use Rattle.layout.specs.State.{Core, State, Env, done, stop, M, Remark, after, bind, opt_m, remark, pay, with_charge, contains, insert, log_start, log_enum, use_struct, use_struct_c, use_enum, use_enum_c, add_item, add_item_c, file, settle, on_core}
+use Rattle.layout.specs.State.{Core, State, Env, done, stop, M, Remark, after, bind, opt_m, remark, pay, with_charge, contains, insert, log_start, log_enum, use_struct, use_struct_c, use_enum, use_enum_c, lay_item_c, file, settle, on_core, lay_item}
 use Rattle.layout.specs.Members.{says, leaves, need, wrong}
 use Rattle.layout.specs.Runs.{elements, run}
 use Rattle.layout.specs.Write.{laid_run}
@@ -132,7 +132,7 @@ module _ (R : Fewer) where
   unfolding file
   prims s₀ =
       core_prims Any (λ c. In U c → D s₀) E (allows_any E) (λ d c k q. in_struct s₀ d.name c q) (λ n c e q. in_enum s₀ n c q)
-      (λ n bs c v a b q u. q (record { structs = u.structs; enums = u.enums }))
+      (λ alone n bs c v a b q u. q (record { structs = u.structs; enums = u.enums }))
 
   -- what held at the end held before
 
@@ -142,8 +142,8 @@ module _ (R : Fewer) where
   pub b_pay : (s₀ : State) (n : ℕ) → Keeps (back D s₀) (pay E n)
   b_pay s₀ n = (prims s₀).pay_keeps n
 
-  pub b_add : (s₀ : State) (n : ℕ) (bs : Bytes) → Keeps (back D s₀) (add_item n bs)
-  b_add s₀ n bs = (prims s₀).add_keeps n bs tt
+  pub b_add : (alone : Bool) (s₀ : State) (n : ℕ) (bs : Bytes) → Keeps (back D s₀) (lay_item alone n bs)
+  b_add alone s₀ n bs = (prims s₀).add_keeps alone n bs tt
 
   pub b_says : (s₀ : State) (d : StructDef) (e : Member) (kind detail : ℕ) → Keeps (back D s₀) (says d e kind detail)
   b_says s₀ = k_says E (back D s₀) (prims s₀)
@@ -221,9 +221,9 @@ module _ (R : Fewer) where
   unfolding use_enum
   s_use_enum n = s_bind Rel D _ _ _ _ (s_log_enum n) (λ u. s_core (use_enum_c n) 0 (λ s₀. c_core Any (λ c. In U c → D s₀) (use_enum_c n) 0 (in_enum s₀ n)))
 
-  pub s_add : (n : ℕ) (bs : Bytes) → Sim Rel D (add_item n bs) (add_item n bs)
-  unfolding add_item
-  s_add n bs = s_core (add_item_c n bs) 10 (λ s₀. (prims s₀).add_keeps n bs tt)
+  pub s_add : (alone : Bool) (n : ℕ) (bs : Bytes) → Sim Rel D (lay_item alone n bs) (lay_item alone n bs)
+  unfolding lay_item
+  s_add alone n bs = s_core (lay_item_c alone n bs) 10 (λ s₀. (prims s₀).add_keeps alone n bs tt)
 
   -- a name outside U is used: then U is not the end's
   pub t_use_struct : (n : ℕ) → contains n U.structs ≡ false → Tells D ⊥ (use_struct n)

@@ -278,11 +278,11 @@ module _ (R : Fewer) where
       (s_started _ _ (s_write fuel _) (b_write fuel _) (t_write fuel _) (s_write fuel _) (b_write fuel _) (t_write fuel _) d fs)
 
   -- the whole run
-  pub s_root : (n : ℕ) (d : StructDef) (fs : Fields) → E.defs.struct n ≡ Some d → L'.struct n ≡ Some d → Sim Rel D (root E d fs) (root E' d fs)
+  pub s_root : (alone : Bool) (n : ℕ) (d : StructDef) (fs : Fields) → E.defs.struct n ≡ Some d → L'.struct n ≡ Some d → Sim Rel D (root E alone d fs) (root E' alone d fs)
   unfolding root
-  s_root n d fs q q' = s_bind Rel D _ _ _ _ (s_write 96 32 n d fs q q') (λ bs. s_add R d.name bs)
+  s_root alone n d fs q q' = s_bind Rel D _ _ _ _ (s_write 96 32 n d fs q q') (λ bs. s_add R alone d.name bs)
 
   -- the root's name is used by its end
-  pub t_root : (n : ℕ) (d : StructDef) (fs : Fields) → E.defs.struct n ≡ Some d → contains n U.structs ≡ false → Tells D ⊥ (root E d fs)
+  pub t_root : (alone : Bool) (n : ℕ) (d : StructDef) (fs : Fields) → E.defs.struct n ≡ Some d → contains n U.structs ≡ false → Tells D ⊥ (root E alone d fs)
   unfolding root
-  t_root n d fs q a = t_left D ⊥ _ _ (t_write 96 32 n d fs q a) (λ bs s₀. b_add R s₀ d.name bs)
+  t_root alone n d fs q a = t_left D ⊥ _ _ (t_write 96 32 n d fs q a) (λ bs s₀. b_add R alone s₀ d.name bs)

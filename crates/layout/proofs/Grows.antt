@@ -11,7 +11,7 @@ use lib.Dec.{leb}
 use lib.ListN.{length}
 use Rattle.value.specs.Rows.{Fields}
 use Rattle.schema.specs.Defs.{StructDef}
-use Rattle.layout.specs.State.{State, Core, Env, Out, done, stop, M, Remark, after, bind, remarked, noted, thinned, thin, remark, pay, settle, on_core, log_start, log_enum, use_struct, use_struct_c, use_enum, use_enum_c, add_item, add_item_c, with_charge, events_of}
+use Rattle.layout.specs.State.{State, Core, Env, Out, done, stop, M, Remark, after, bind, remarked, noted, thinned, thin, remark, pay, settle, on_core, log_start, log_enum, use_struct, use_struct_c, use_enum, use_enum_c, lay_item_c, with_charge, events_of, lay_item}
 use Rattle.layout.specs.Write.{write, root}
 use Rattle.layout.proofs.Keep.{Claim, Okay, Keeps}
 use Rattle.layout.proofs.Writers.{Prims, k_write, k_root}
@@ -49,7 +49,7 @@ settled es s e (Some r) x = x
 
 -- every action keeps it
 pub grow_prims : (E : Env) (es : List Remark) → Prims E (growing es)
-unfolding Keeps remark pay use_struct use_enum add_item bind after log_start log_enum on_core settle use_struct_c use_enum_c
+unfolding Keeps remark pay use_struct use_enum lay_item bind after log_start log_enum on_core settle use_struct_c use_enum_c
 grow_prims E es =
     record {
       starts = λ d. Unit {0};
@@ -58,7 +58,7 @@ grow_prims E es =
       pay_keeps = λ n s x. paid es s n (leb (s.charge + n) E.charge_cap) x;
       struct_keeps = λ d k s x. x;
       enum_keeps = λ n e s x. x;
-      add_keeps = λ n bs u s x. settled es s 10 (add_item_c n bs s.core) x;
+      add_keeps = λ alone n bs u s x. settled es s 10 (lay_item_c alone n bs s.core) x;
       found = λ n d e. (tt, tt);
       named = λ d k. tt;
       small = λ n h. tt;
@@ -81,8 +81,8 @@ grows {A = A} m h s = go (m s) (h s.events s (extends_same s.events))
 pub g_write : (E : Env) (fuel left : ℕ) (d : StructDef) (fs : Fields) → Grows (write E fuel left d fs)
 g_write E fuel left d fs = grows _ (λ es. k_write E (growing es) (grow_prims E es) fuel left d fs (started E es d))
 
-pub g_root : (E : Env) (d : StructDef) (fs : Fields) → Grows (root E d fs)
-g_root E d fs = grows _ (λ es. k_root E (growing es) (grow_prims E es) d fs (started E es d))
+pub g_root : (E : Env) (alone : Bool) (d : StructDef) (fs : Fields) → Grows (root E alone d fs)
+g_root E alone d fs = grows _ (λ es. k_root E (growing es) (grow_prims E es) alone d fs (started E es d))
 
 -- thinning
 

@@ -4,7 +4,7 @@ use Rattle.std.specs.Prelude.{Option, Some}
 use Prim.Native.Nat.{ℕ, suc, ◌+◌, ◌^◌, ◌≤◌, ◌<◌}
 use native.Mathlib.Omega.{arith}
 use mathlib.Core.Path.{◌≡◌, refl, sym, ◌∙◌, ap, subst}
-use mathlib.Core.Bool.{Bool, true, false, cond, ◌&&◌}
+use mathlib.Core.Bool.{Bool, true, false, cond, ◌&&◌, not}
 use mathlib.Core.List.{List, [], ◌∷◌, ◌++◌, map, append-nil, append_assoc}
 use lib.Dec.{eqb, leb}
 use lib.ListN.{length, length-append}
@@ -15,7 +15,7 @@ use Rattle.numbers.proofs.Bytes.{length_bytes, number_of}
 use Rattle.numbers.proofs.Laws.{length_over, read_over, read_before}
 use Rattle.value.specs.Rows.{Row, fields_of}
 use Rattle.schema.specs.Defs.{StructDef, Member}
-use Rattle.layout.specs.State.{Block, Core, State, Env, Out, done, stop, M, Spot, spot, past, pointer_at, max_block, file, after, bind, ret, if_m, opt_m, pay, with_charge, settle, on_core, add_item, add_item_c}
+use Rattle.layout.specs.State.{Block, Core, State, Env, Out, done, stop, M, Spot, spot, past, pointer_at, max_block, file, lies, after, bind, ret, if_m, opt_m, pay, with_charge, settle, on_core, add_item, lay_item_c, lay_item}
 use Rattle.layout.specs.Members.{need, slot_size, put_pointer, put_counted, add_string, text_slot}
 use Rattle.layout.specs.Runs.{Writer, Run, own_type, pointed}
 use Rattle.layout.specs.Write.{laid_run}
@@ -28,17 +28,18 @@ abbrev names : List Block → List ℕ
 names bs = map (λ b. b.name) bs
 
 -- an item renames no block, and opens at most one
-spot_names : (n need : ℕ) (bs : List Block) → (more : List ℕ) × (names (spot n need bs).blocks ≡ names bs ++ more)
+spot_names : (alone : Bool) (n need : ℕ) (bs : List Block) → (more : List ℕ) × (names (spot alone n need bs).blocks ≡ names bs ++ more)
 unfolding spot
-spot_names n need [] = (n ∷ [], refl)
-spot_names n need (b ∷ bs) = go (eqb b.name n) refl (leb (b.len + need) max_block) (spot_names n need bs)
+spot_names alone n need [] = (n ∷ [], refl)
+spot_names alone n need (b ∷ bs) = go (not alone) (eqb b.name n) refl (leb (b.len + need) max_block) (spot_names alone n need bs)
   where
-    go : (t : Bool) → eqb b.name n ≡ t → (f : Bool) → (more : List ℕ) × (names (spot n need bs).blocks ≡ names bs ++ more)
+    go : (o t : Bool) → eqb b.name n ≡ t → (f : Bool) → (more : List ℕ) × (names (spot alone n need bs).blocks ≡ names bs ++ more)
         → (more : List ℕ)
-        × (names (cond (t && f) (record { before = 0; start = b.len; blocks = record { name = n; len = b.len + need } ∷ bs }) (past b (spot n need bs))).blocks ≡ names (b ∷ bs) ++ more)
-    go true e true h = ([], ap (λ (k : ℕ). k ∷ names bs) (sym (eqb-true b.name n e)) ∙ sym (append-nil (names (b ∷ bs))))
-    go true e false (more, h) = (more, ap (b.name ∷◌) h)
-    go false e f (more, h) = (more, ap (b.name ∷◌) h)
+        × (names (cond (o && (t && f)) (record { before = 0; start = b.len; blocks = record { name = n; len = b.len + need } ∷ bs }) (past b (spot alone n need bs))).blocks ≡ names (b ∷ bs) ++ more)
+    go true true e true h = ([], ap (λ (k : ℕ). k ∷ names bs) (sym (eqb-true b.name n e)) ∙ sym (append-nil (names (b ∷ bs))))
+    go true true e false (more, h) = (more, ap (b.name ∷◌) h)
+    go true false e f (more, h) = (more, ap (b.name ∷◌) h)
+    go false t e f (more, h) = (more, ap (b.name ∷◌) h)
 
 -- what stands once stands further on
 pub further_same : (c : Core) → Further c c
@@ -53,13 +54,30 @@ further_then a b c f g =
       blocks = g.blocks ∙ ap (λ l. l ++ g.more_blocks) f.blocks ∙ append_assoc (names a.blocks) f.more_blocks g.more_blocks;
     }
 
-pub further_file : (bs : Bytes) (n : ℕ) (c : Core) → Further c (file bs (pointer_at (spot n (length bs) c.blocks)) c (spot n (length bs) c.blocks))
+pub further_file : (alone : Bool) (bs : Bytes) (n : ℕ) (c : Core)
+    → Further c (file bs (pointer_at (spot alone n (length bs) c.blocks)) c (spot alone n (length bs) c.blocks))
 unfolding file
-further_file bs n c =
-    let (more, e) = spot_names n (length bs) c.blocks in
+further_file alone bs n c =
+    let (more, e) = spot_names alone n (length bs) c.blocks in
     record { more_items = _ ∷ []; items = refl; more_blocks = more; blocks = e }
 
 -- laying an item
+
+-- the state with it
+abbrev pub laid_in : Bool → ℕ → Bytes → State → State
+laid_in alone n bs s =
+    let p = spot alone n (length bs) s.core.blocks in
+    record { core = file bs (pointer_at p) s.core p; charge = s.charge; events = s.events; uses = s.uses }
+
+-- it has its place, or not
+pub add_fits : (alone : Bool) (n : ℕ) (bs : Bytes) (s : State) → lies (spot alone n (length bs) s.core.blocks) ≡ true
+    → lay_item alone n bs s ≡ done (pointer_at (spot alone n (length bs) s.core.blocks)) (laid_in alone n bs s)
+unfolding lay_item on_core settle lay_item_c
+add_fits alone n bs s e = rw e
+
+pub add_none : (alone : Bool) (n : ℕ) (bs : Bytes) (s : State) → lies (spot alone n (length bs) s.core.blocks) ≡ false → lay_item alone n bs s ≡ stop 10 s.events
+unfolding lay_item on_core settle lay_item_c
+add_none alone n bs s e = rw e
 
 -- the item has the pointer to where it is filed, which has 4 bytes
 pub record Added (n : ℕ) (bs : Bytes) (p : ℕ) (c c' : Core) : Type 0 where
@@ -73,25 +91,25 @@ Adds n bs c (done p s) = Added n bs p c s.core
 Adds n bs c (stop k es) = Unit {0}
 
 -- the block that an item goes to has the item's name
-spot_here : (n need : ℕ) (bs : List Block) → (b : Block) × (nth (spot n need bs).blocks (spot n need bs).before ≡ Some b) × (b.name ≡ n)
+spot_here : (alone : Bool) (n need : ℕ) (bs : List Block) → (b : Block) × (nth (spot alone n need bs).blocks (spot alone n need bs).before ≡ Some b) × (b.name ≡ n)
 unfolding nth
-spot_here n need [] = unfold spot in (_, refl, refl)
-spot_here n need (b ∷ bs) =
-    spot_case (λ p. (c : Block) × (nth p.blocks p.before ≡ Some c) × (c.name ≡ n)) n need b bs (_, refl, refl) (spot_here n need bs)
+spot_here alone n need [] = unfold spot in (_, refl, refl)
+spot_here alone n need (b ∷ bs) =
+    spot_case alone (λ p. (c : Block) × (nth p.blocks p.before ≡ Some c) × (c.name ≡ n)) n need b bs (_, refl, refl) (spot_here alone n need bs)
 
-pub adds : (n : ℕ) (bs : Bytes) (s : State) → Adds n bs s.core (add_item n bs s)
-unfolding add_item on_core settle add_item_c file
-adds n bs s = go (leb (suc p.before) 4095) refl (leb p.start 0xFFFFF) refl
+pub adds : (alone : Bool) (n : ℕ) (bs : Bytes) (s : State) → Adds n bs s.core (lay_item alone n bs s)
+unfolding lay_item on_core settle lay_item_c file
+adds alone n bs s = go (leb (suc p.before) 4095) refl (leb p.start 0xFFFFF) refl
   where
     p : Spot
-    p = spot n (length bs) s.core.blocks
+    p = spot alone n (length bs) s.core.blocks
 
     go : (a : Bool) → leb (suc p.before) 4095 ≡ a → (b : Bool) → leb p.start 0xFFFFF ≡ b
         → Adds n bs s.core (settle s 10 (given (a && b) (pointer_at p, file bs (pointer_at p) s.core p)))
     go false e b f = tt
     go true e false f = tt
     go true e true f =
-        let (block, q, m) = spot_here n (length bs) s.core.blocks in
+        let (block, q, m) = spot_here alone n (length bs) s.core.blocks in
         record {
           lays =
               record {
@@ -104,7 +122,7 @@ adds n bs s = go (leb (suc p.before) 4095) refl (leb p.start 0xFFFFF) refl
                 filed = q;
                 named = m;
                 pointer = refl;
-                stays = (unfold file in further_file bs n s.core);
+                stays = (unfold file in further_file alone bs n s.core);
               };
           formed = refl;
           most = leb-true (suc p.before) 4095 e;
@@ -160,7 +178,7 @@ adds_text E t s = go (leb (s.charge + (16 + (length t + 1))) E.charge_cap)
     go : (b : Bool)
         → Adds 1 (t ++ (0 ∷ [])) s.core
         (after (cond b (done (tt {0}) (with_charge (s.charge + (16 + (length t + 1))) s)) (stop 9 s.events)) (λ _. add_item 1 (t ++ (0 ∷ []))))
-    go true = adds 1 (t ++ (0 ∷ [])) (with_charge (s.charge + (16 + (length t + 1))) s)
+    go true = adds false 1 (t ++ (0 ∷ [])) (with_charge (s.charge + (16 + (length t + 1))) s)
     go false = tt
 
 pub text_slot_law : (E : Env) (sub : ℕ) (t buf : Bytes) (off : ℕ) (s : State) → off + slot_size sub ≤ length buf → is_empty t ≡ false
@@ -174,7 +192,7 @@ pub run_slot : (m : M (Option Run)) (n off : ℕ) (buf : Bytes) (s : State) (r :
     → Points r.block r.bytes off t.core (laid_run m n off buf s)
 unfolding laid_run bind after opt_m
 run_slot m n off buf s r t h e =
-    rw e (points r.block r.bytes t.core off _ (λ p g. counted_read buf off p n h g) (add_item r.block r.bytes t) (adds r.block r.bytes t))
+    rw e (points r.block r.bytes t.core off _ (λ p g. counted_read buf off p n h g) (add_item r.block r.bytes t) (adds false r.block r.bytes t))
 
 -- structures by pointer
 

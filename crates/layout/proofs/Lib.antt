@@ -21,6 +21,7 @@ pub mod Puts
 pub mod Slots
 pub mod Join
 pub mod Stay
+pub mod Apart
 pub mod Root
 -- F carries each used definition once
 pub mod Uses
@@ -38,6 +39,8 @@ pub mod Carried
 pub mod Rebuild
 -- all of it
 pub mod EveryPack
+-- how the two ways differ
+pub mod Ways
 -- events only grow, so 14 may be refused on the spot
 pub mod Grows
 -- a sheet's levels, and that the end of `write`'s recursion is never reached (`fuel_enough`)

@@ -44,7 +44,7 @@ within_ok {A = A} records es r a e = go (ltb records (length (thin es))) e
 -- the layout
 
 -- the layout l of the sheet T and the schema file S: the definitions, the root's definition, the end that writing came to
-pub record Made (T S : Bytes) (work : ℕ) (l : Laid) : Type 0 where
+pub record Made (alone : Bool) (T S : Bytes) (work : ℕ) (l : Laid) : Type 0 where
   pub schema : Schema
   pub def : StructDef
   pub sheet_ok_law : sheet_ok T ≡ ok tt
@@ -52,7 +52,7 @@ pub record Made (T S : Bytes) (work : ℕ) (l : Laid) : Type 0 where
   pub defs_are : l.defs ≡ winning schema
   pub def_is : (winning schema).struct (row T 0).a ≡ Some def
   pub room : ltb work (work_need (index_entries schema)) ≡ false
-  pub ran : root (env_of T schema work) def (fields_of T (row T 0)) empty_state ≡ done l.pointer l.state
+  pub ran : root (env_of T schema work) alone def (fields_of T (row T 0)) empty_state ≡ done l.pointer l.state
 
 record LaidBy (L : Lookup) (o : Out ℕ) (l : Laid) : Type 0 where
   is_done_law : o ≡ done l.pointer l.state
@@ -67,9 +67,9 @@ laid_by L records (done p s) l e = subst (LaidBy L (done p s)) (ap laid_of (with
     laid_of (ok m) = m
     laid_of (refused n) = l
 
-pub made : (T S : Bytes) (work records : ℕ) (l : Laid) → layout T S work records ≡ ok l → Made T S work l
+pub made : {alone : Bool} (T S : Bytes) (work records : ℕ) (l : Laid) → layout alone T S work records ≡ ok l → Made alone T S work l
 unfolding layout layout_of layout_with
-made T S work records l e =
+made {alone} T S work records l e =
     let (u, a, f) = then_ok (sheet_ok T) _ l e in
     let (K, b, g) = then_ok (schema_of S) _ l f in
     let (d, c, h) = then_ok (needed ((winning K).struct (row T 0).a) 7) _ l g in
@@ -77,51 +77,51 @@ made T S work records l e =
   where
     go : (u : Unit {0}) → sheet_ok T ≡ ok u → (K : Schema) → schema_of S ≡ ok K → (d : StructDef) → (winning K).struct (row T 0).a ≡ Some d → (b : Bool)
         → ltb work (work_need (index_entries K)) ≡ b
-        → cond b (refused 12) (laid_from (winning K) records (root (env_of T K work) d (fields_of T (row T 0)) empty_state)) ≡ ok l
-        → Made T S work l
+        → cond b (refused 12) (laid_from (winning K) records (root (env_of T K work) alone d (fields_of T (row T 0)) empty_state)) ≡ ok l
+        → Made alone T S work l
     go u a K k d q true r f = let z : ◌≡◌ {A = ℕ} 0 1 = cc in absurd (omega arith)
     go u a K k d q false r f =
-        let y = laid_by (winning K) records (root (env_of T K work) d (fields_of T (row T 0)) empty_state) l f in
+        let y = laid_by (winning K) records (root (env_of T K work) alone d (fields_of T (row T 0)) empty_state) l f in
         record { schema = K; def = d; sheet_ok_law = a; schema_is = k; defs_are = y.is_defs; def_is = q; room = r; ran = y.is_done_law }
 
-pub makes : (T S : Bytes) (work records : ℕ) (l : Laid) → Made T S work l → length (thin l.state.events) ≤ records → layout T S work records ≡ ok l
+pub makes : {alone : Bool} (T S : Bytes) (work records : ℕ) (l : Laid) → Made alone T S work l → length (thin l.state.events) ≤ records → layout alone T S work records ≡ ok l
 unfolding layout layout_of layout_with and_then needed laid_from within
 makes T S work records l m h =
     rw (m.sheet_ok_law, m.schema_is, m.def_is, m.room, m.ran, le-ltb records (length (thin l.state.events)) h)
     (ap (λ L. ok (record { state = l.state; pointer = l.pointer; defs = L })) (sym m.defs_are))
 
 -- one record too few
-pub too_few_law : (T S : Bytes) (work records : ℕ) (l : Laid) → Made T S work l → records < length (thin l.state.events) → layout T S work records ≡ refused 14
+pub too_few_law : {alone : Bool} (T S : Bytes) (work records : ℕ) (l : Laid) → Made alone T S work l → records < length (thin l.state.events) → layout alone T S work records ≡ refused 14
 unfolding layout layout_of layout_with and_then needed laid_from within
 too_few_law T S work records l m h = rw (m.sheet_ok_law, m.schema_is, m.def_is, m.room, m.ran, lt-ltb records (length (thin l.state.events)) h) refl
 
 -- a claim that the primitive actions keep, and that holds before the first byte, holds of every layout
-pub reached : (T S : Bytes) (work : ℕ) (l : Laid) (m : Made T S work l) (C : Claim) → Prims (env_of T m.schema work) C → C.holds empty_state → C.holds l.state
+pub reached : {alone : Bool} (T S : Bytes) (work : ℕ) (l : Laid) (m : Made alone T S work l) (C : Claim) → Prims (env_of T m.schema work) C → C.holds empty_state → C.holds l.state
 unfolding Keeps
-reached T S work l m C h p =
+reached {alone} T S work l m C h p =
     subst (Okay C) m.ran
-    (k_root (env_of T m.schema work) C h m.def (fields_of T (row T 0)) (h.found (row T 0).a m.def m.def_is).0 empty_state p)
+    (k_root (env_of T m.schema work) C h alone m.def (fields_of T (row T 0)) (h.found (row T 0).a m.def m.def_is).0 empty_state p)
 
 -- the building
 
--- what was built is the layout's file, and it fitted
-pub built : (T S : Bytes) (work out records : ℕ) (l : Laid) (b : Built) → layout T S work records ≡ ok l → build T S work out records ≡ ok b
-    → (packed l ≡ b) × (length (packed l).file ≤ out) × (length (packed l).file ≤ 16777216)
-unfolding build and_then fitted
-built T S work out records l b e f =
-    go (ltb out (length (packed l).file)) refl (ltb 16777216 (length (packed l).file)) refl (subst (λ r. and_then r (λ m. fitted out (packed m)) ≡ ok b) e f)
+-- a file that fits
+pub fitted_ok : (out : ℕ) (b c : Built) → fitted out b ≡ ok c → (b ≡ c) × (length b.file ≤ out) × (length b.file ≤ 16777216)
+unfolding fitted
+fitted_ok out b c = go (ltb out (length b.file)) refl (ltb 16777216 (length b.file)) refl
   where
-    built_of : Result Built → Built
-    built_of (ok c) = c
-    built_of (refused n) = b
+    go : (s : Bool) → ltb out (length b.file) ≡ s → (t : Bool) → ltb 16777216 (length b.file) ≡ t → cond (s || t) (refused 13) (ok b) ≡ ok c
+        → (b ≡ c) × (length b.file ≤ out) × (length b.file ≤ 16777216)
+    go true e t f g = let z : ◌≡◌ {A = ℕ} 0 1 = cc in absurd (omega arith)
+    go false e true f g = let z : ◌≡◌ {A = ℕ} 0 1 = cc in absurd (omega arith)
+    go false e false f g = (cc, ltb-false out (length b.file) e, ltb-false 16777216 (length b.file) f)
 
-    go : (s : Bool) → ltb out (length (packed l).file) ≡ s → (t : Bool) → ltb 16777216 (length (packed l).file) ≡ t → cond (s || t) (refused 13) (ok (packed l)) ≡ ok b
-        → (packed l ≡ b) × (length (packed l).file ≤ out) × (length (packed l).file ≤ 16777216)
-    go true p t q g = let z : ◌≡◌ {A = ℕ} 0 1 = cc in absurd (omega arith)
-    go false p true q g = let z : ◌≡◌ {A = ℕ} 0 1 = cc in absurd (omega arith)
-    go false p false q g = (ap built_of g, ltb-false out _ p, ltb-false 16777216 _ q)
+-- what was built is the layout's file, and it fitted
+pub built : (alone : Bool) (T S : Bytes) (work out records : ℕ) (l : Laid) (b : Built) → layout alone T S work records ≡ ok l → build alone T S work out records ≡ ok b
+    → (packed l ≡ b) × (length (packed l).file ≤ out) × (length (packed l).file ≤ 16777216)
+unfolding build and_then
+built alone T S work out records l b e f = fitted_ok out (packed l) b (subst (λ r. and_then r (λ m. fitted out (packed m)) ≡ ok b) e f)
 
-pub builds : (T S : Bytes) (work out records : ℕ) (l : Laid) → layout T S work records ≡ ok l → length (packed l).file ≤ out → length (packed l).file ≤ 16777216
-    → build T S work out records ≡ ok (packed l)
+pub builds : (alone : Bool) (T S : Bytes) (work out records : ℕ) (l : Laid) → layout alone T S work records ≡ ok l → length (packed l).file ≤ out → length (packed l).file ≤ 16777216
+    → build alone T S work out records ≡ ok (packed l)
 unfolding build and_then fitted
-builds T S work out records l e h g = rw (e, le-ltb out (length (packed l).file) h, le-ltb 16777216 (length (packed l).file) g)
+builds alone T S work out records l e h g = rw (e, le-ltb out (length (packed l).file) h, le-ltb 16777216 (length (packed l).file) g)

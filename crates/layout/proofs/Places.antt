@@ -81,6 +81,11 @@ psin_length b = omega (arith, length-append (words (PSIN ∷ (16 + length b) ∷
 
 -- blocks
 
+pub places_length : (at : ℕ) (bs : List Block) → length (places_from at bs) ≡ length bs
+unfolding places_from
+places_length at [] = refl
+places_length at (b ∷ bs) = ap suc (places_length (at + b.len) bs)
+
 blocks_tile_law : (at : ℕ) (bs : List Block) → BlocksTile at (places_from at bs) (at + total bs)
 unfolding places_from total
 blocks_tile_law at [] = sym (add-zero at)

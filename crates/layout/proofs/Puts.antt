@@ -64,7 +64,7 @@ module _ (buf : Bytes) (off : ℕ) where
 
   o_lay : (n : ℕ) (bs : Bytes) (f : ℕ → Bytes) → ((p : ℕ) → p < 256 ^ 4 → read_at 4 (f p) off ≡ p) → Only (bind (add_item n bs) (λ p. ret (f p)))
   unfolding bind
-  o_lay n bs f h s = o_points n bs s.core (after (add_item n bs s) (λ p. ret (f p))) (points n bs s.core off f h (add_item n bs s) (adds n bs s))
+  o_lay n bs f h s = o_points n bs s.core (after (add_item n bs s) (λ p. ret (f p))) (points n bs s.core off f h (add_item n bs s) (adds false n bs s))
 
 module _ (E : Env) (d : StructDef) (e : Member) where
   says_adds : (kind detail : ℕ) → OnlyAdds (says d e kind detail)
@@ -114,7 +114,7 @@ module _ (buf : Bytes) (off : ℕ) (f : ℕ → Bytes) (h : (p : ℕ) → p < 25
       go (done bs t) x =
           rw there
           (o_since buf off s.core t.core x (after (add_item n bs t) (λ p. ret (f p)))
-          (o_points buf off n bs t.core (after (add_item n bs t) (λ p. ret (f p))) (points n bs t.core off f h (add_item n bs t) (adds n bs t))))
+          (o_points buf off n bs t.core (after (add_item n bs t) (λ p. ret (f p))) (points n bs t.core off f h (add_item n bs t) (adds false n bs t))))
       go (stop k es) x = tt
 
   o_pointed : (E : Env) (w : Writer) → ((i : StructDef) (fs : Fields) → OnlyAdds (w i fs)) → (d : StructDef) (e : Member) (ref : ℕ) (v : Row)

@@ -4,6 +4,7 @@ use Prim.Native.Nat.{ℕ, ◌%◌, ◌^◌, ◌≤◌, ◌<◌}
 use native.Mathlib.Omega.{arith}
 use mathlib.Core.Path.{◌≡◌, sym, ◌∙◌, ap, subst}
 use mathlib.Core.List.{List, ◌++◌}
+use mathlib.Core.Bool.{Bool}
 use lib.ListN.{length, take}
 use lib.Seq.{take-append_seam}
 use borrow.Author.Tests.{le-ltb}
@@ -69,7 +70,7 @@ module _ (L : Lookup) (p : ℕ) (c : Core) where
 
 -- of every layout whose file is not too long
 
-module _ (T S : Bytes) (work : ℕ) (l : Laid) (m : Made T S work l) (o : Octets S) (h : length (packed l).file ≤ 16777216) where
+module _ {alone : Bool} (T S : Bytes) (work : ℕ) (l : Laid) (m : Made alone T S work l) (o : Octets S) (h : length (packed l).file ≤ 16777216) where
   fits : Fits l.defs
   fits = subst Fits (sym m.defs_are) (winning_fits S m.schema o m.schema_is)
 

@@ -6,7 +6,7 @@ use native.Mathlib.Omega.{arith}
 use native.Mathlib.Nat.{le_refl}
 use mathlib.Core.Path.{◌≡◌, refl, sym, ◌∙◌, ap, subst}
 use mathlib.Core.Logic.{◌⊎◌, inl, inr}
-use mathlib.Core.Bool.{false}
+use mathlib.Core.Bool.{false, Bool}
 use lib.ListN.{length, take}
 use lib.Seq.{take-append_seam}
 use borrow.Author.Tests.{ltb-false, le-ltb}
@@ -38,14 +38,14 @@ no_map_lost E w d e v buf s sub fit kind empty = rw (sub, fit, kind, empty)
 -- the run again, with fewer definitions
 
 -- the second run: its root is defined, it ends with the pointer p, its state is related to the first run's
-pub record Again (E' : Env) (n : ℕ) (d : StructDef) (fs : Fields) (t₀ : State) (p : ℕ) (s : State) : Type 0 where
+pub record Again (alone : Bool) (E' : Env) (n : ℕ) (d : StructDef) (fs : Fields) (t₀ : State) (p : ℕ) (s : State) : Type 0 where
   pub state : State
   pub kept : E'.defs.struct n ≡ Some d
-  pub ran : root E' d fs t₀ ≡ done p state
+  pub ran : root E' alone d fs t₀ ≡ done p state
   pub related : Rel s state
 
-module _ (R : Fewer) (n : ℕ) (d : StructDef) (fs : Fields) (q : R.first.defs.struct n ≡ Some d) (s₀ t₀ : State) (start : Rel s₀ t₀)
-    (p : ℕ) (s : State) (ran : root R.first d fs s₀ ≡ done p s) (end : Inside R.used s) where
+module _ (alone : Bool) (R : Fewer) (n : ℕ) (d : StructDef) (fs : Fields) (q : R.first.defs.struct n ≡ Some d) (s₀ t₀ : State) (start : Rel s₀ t₀)
+    (p : ℕ) (s : State) (ran : root R.first alone d fs s₀ ≡ done p s) (end : Inside R.used s) where
   -- "7 no": the root is used
   root_kept : R.defs.struct n ≡ Some d
   unfolding Tells
@@ -53,16 +53,16 @@ module _ (R : Fewer) (n : ℕ) (d : StructDef) (fs : Fields) (q : R.first.defs.s
     where
       go : (R.defs.struct n ≡ R.first.defs.struct n) ⊎ ((R.defs.struct n ≡ None) × (contains n R.used.structs ≡ false)) → R.defs.struct n ≡ Some d
       go (inl e) = e ∙ q
-      go (inr e) = absurd (subst (Okay (always (λ t. Inside R.used t → ⊥))) ran (t_root R n d fs q e.1 s₀) end)
+      go (inr e) = absurd (subst (Okay (always (λ t. Inside R.used t → ⊥))) ran (t_root R alone n d fs q e.1 s₀) end)
 
   -- the second run ends with the same pointer and the same core, and is charged no more; events are not related
-  pub run_again : Again (second R) n d fs t₀ p s
-  run_again = go (root (second R) d fs t₀) refl (subst (λ o. Follows Rel (Inside R.used) o (root (second R) d fs t₀)) ran sim end)
+  pub run_again : Again alone (second R) n d fs t₀ p s
+  run_again = go (root (second R) alone d fs t₀) refl (subst (λ o. Follows Rel (Inside R.used) o (root (second R) alone d fs t₀)) ran sim end)
     where
-      sim : Follows Rel (Inside R.used) (root R.first d fs s₀) (root (second R) d fs t₀)
-      sim = (s_root R n d fs q root_kept).follows s₀ t₀ start
+      sim : Follows Rel (Inside R.used) (root R.first alone d fs s₀) (root (second R) alone d fs t₀)
+      sim = (s_root R alone n d fs q root_kept).follows s₀ t₀ start
 
-      go : (o : Out ℕ) → root (second R) d fs t₀ ≡ o → Ends Rel p s o → Again (second R) n d fs t₀ p s
+      go : (o : Out ℕ) → root (second R) alone d fs t₀ ≡ o → Ends Rel p s o → Again alone (second R) n d fs t₀ p s
       go (stop x es) f w = absurd w
       go (done r t) f w = record { state = t; kept = root_kept; ran = f ∙ ap (λ z. done z t) (sym w.0); related = w.1 }
 
@@ -72,7 +72,7 @@ unfolding cap_of
 cap_larger work i j h = omega (arith, h)
 
 -- F, as a schema file, holds the used definitions of the layout l
-module _ (T S : Bytes) (work : ℕ) (l : Laid) (m : Made T S work l) (F : Bytes) (reads : schema_of F ≡ ok (used_of (winning m.schema) l.state.core)) where
+module _ {alone : Bool} (T S : Bytes) (work : ℕ) (l : Laid) (m : Made alone T S work l) (F : Bytes) (reads : schema_of F ≡ ok (used_of (winning m.schema) l.state.core)) where
   abbrev c : Core
   c = l.state.core
 
@@ -102,16 +102,16 @@ module _ (T S : Bytes) (work : ℕ) (l : Laid) (m : Made T S work l) (F : Bytes)
         enums_agree = carried_enums L names c;
       }
 
-  again : Again (env_of T K' work) (row T 0).a m.def (fields_of T (row T 0)) empty_state l.pointer l.state
+  again : Again alone (env_of T K' work) (row T 0).a m.def (fields_of T (row T 0)) empty_state l.pointer l.state
   again =
-      run_again runs (row T 0).a m.def (fields_of T (row T 0)) m.def_is empty_state empty_state (record { same = refl; less = le_refl _ }) l.pointer l.state m.ran
+      run_again alone runs (row T 0).a m.def (fields_of T (row T 0)) m.def_is empty_state empty_state (record { same = refl; less = le_refl _ }) l.pointer l.state m.ran
       (record { structs = λ x h. h; enums = λ x h. h })
 
   -- what the rebuild lays
   pub laid_again : Laid
   laid_again = record { state = again.state; pointer = l.pointer; defs = winning K' }
 
-  pub made_again : Made T F work laid_again
+  pub made_again : Made alone T F work laid_again
   unfolding laid_again
   made_again =
       record {
@@ -149,10 +149,10 @@ unfolding afterwards
 refuses work buffer records k r e = rw e refl
 
 -- where building from T and S gives F, building from T and F gives F, with as many records as the rebuild has distinct remarks
-pub rebuilds : (T S : Bytes) (work out : ℕ) (l : Laid) (m : Made T S work l) → schema_of (packed l).file ≡ ok (used_of l.defs l.state.core)
-    → length (packed l).file ≤ out → length (packed l).file ≤ 16777216 → Rebuilds T (packed l).file work out
+pub rebuilds : {alone : Bool} (T S : Bytes) (work out : ℕ) (l : Laid) (m : Made alone T S work l) → schema_of (packed l).file ≡ ok (used_of l.defs l.state.core)
+    → length (packed l).file ≤ out → length (packed l).file ≤ 16777216 → Rebuilds alone T (packed l).file work out
 unfolding build_pso
-rebuilds T S work out l m reads short small =
+rebuilds {alone} T S work out l m reads short small =
     record {
       distinct = length (thin n.state.events);
       answers = λ buffer records e h. answers work buffer records built _ (builds_again buffer records e h);
@@ -178,11 +178,11 @@ rebuilds T S work out l m reads short small =
     is_built : packed n ≡ built
     is_built = unfold packed in ap (λ G. record { file = G; remarks = thin n.state.events }) same_file
 
-    builds_again : (buffer : Bytes) (records : ℕ) → length buffer ≡ out → length (thin n.state.events) ≤ records → build T F work (length buffer) records ≡ ok built
+    builds_again : (buffer : Bytes) (records : ℕ) → length buffer ≡ out → length (thin n.state.events) ≤ records → build alone T F work (length buffer) records ≡ ok built
     builds_again buffer records e h =
-        builds T F work (length buffer) records n (makes T F work records n (made_again T S work l m F reads') h)
+        builds alone T F work (length buffer) records n (makes T F work records n (made_again T S work l m F reads') h)
         (subst (λ G. length G ≤ length buffer) (sym same_file) (subst (λ k. length F ≤ k) (sym e) short)) (subst (λ G. length G ≤ 16777216) (sym same_file) small)
         ∙ ap ok is_built
 
-    too_few_built : (buffer : Bytes) (records : ℕ) → records < length (thin n.state.events) → build T F work (length buffer) records ≡ refused 14
+    too_few_built : (buffer : Bytes) (records : ℕ) → records < length (thin n.state.events) → build alone T F work (length buffer) records ≡ refused 14
     too_few_built buffer records h = unfold build and_then in (rw (too_few_law T F work records n (made_again T S work l m F reads') h))

@@ -16,7 +16,7 @@ use Rattle.schema.specs.Sections.{Sections, section, end, broken, PSIN, PMAP, PS
 use Rattle.schema.specs.Defs.{Lookup, StructDef, winning, index_entries}
 use Rattle.schema.specs.Psch.{structure, enumeration, struct_here, enum_here, struct_at, enum_at, def_at, defs_from, psch_of, section_defs, defs_of, schema_of, outside}
 use Rattle.pso.specs.Reader.{Seen, head_of, count_of, blocks_at, pmap_of, with_data, with_map, with_defs, see_section, see_all, pso_from, nothing_seen, parse_pso}
-use Rattle.layout.specs.State.{State, Core, Env, Out, done, stop, thin, remark, pay, settle, on_core, bind, after, log_start, log_enum, use_struct, use_struct_c, use_enum, use_enum_c, add_item, add_item_c, with_charge, empty_state}
+use Rattle.layout.specs.State.{State, Core, Env, Out, done, stop, thin, remark, pay, settle, on_core, bind, after, log_start, log_enum, use_struct, use_struct_c, use_enum, use_enum_c, lay_item_c, with_charge, empty_state, lay_item}
 use Rattle.layout.specs.Write.{root}
 use Rattle.layout.specs.Build.{sheet_ok, work_need, cap_of, within, laid_from, layout_with, layout_of, layout, packed, fitted, build}
 use Rattle.layout.proofs.Keep.{Claim, Okay, Keeps}
@@ -155,7 +155,7 @@ filed s None = (omega arith, omega arith)
 filed s (Some r) = tt
 
 number_prims : (E : Env) → Prims E numbered
-unfolding Keeps remark pay use_struct use_enum add_item bind after log_start log_enum on_core settle use_struct_c use_enum_c
+unfolding Keeps remark pay use_struct use_enum lay_item bind after log_start log_enum on_core settle use_struct_c use_enum_c
 number_prims E =
     record {
       starts = λ d. Unit {0};
@@ -164,15 +164,15 @@ number_prims E =
       pay_keeps = λ n s x. paid s n (leb (s.charge + n) E.charge_cap);
       struct_keeps = λ d k s x. tt;
       enum_keeps = λ n e s x. tt;
-      add_keeps = λ n bs u s x. filed s (add_item_c n bs s.core);
+      add_keeps = λ alone n bs u s x. filed s (lay_item_c alone n bs s.core);
       found = λ n d e. (tt, tt);
       named = λ d k. tt;
       small = λ n h. tt;
     }
 
-written : (E : Env) (d : StructDef) (fs : Fields) (s : State) → Okay numbered (root E d fs s)
+written : (alone : Bool) (E : Env) (d : StructDef) (fs : Fields) (s : State) → Okay numbered (root E alone d fs s)
 unfolding Keeps number_prims
-written E d fs s = k_root E numbered (number_prims E) d fs tt s tt
+written alone E d fs s = k_root E numbered (number_prims E) alone d fs tt s tt
 
 -- building: 1 to 14
 
@@ -181,16 +181,16 @@ unfolding laid_from within
 laid_among L records (stop n es) h = a_cond 1 14 (ltb records (length (thin es))) (refused 14) (refused n) (a_no 1 14 _ _ (omega arith) (omega arith)) (a_no 1 14 _ n (omega (arith, h.0)) (omega (arith, h.1)))
 laid_among L records (done p s) h = a_cond 1 14 (ltb records (length (thin s.events))) (refused 14) (ok (record { state = s; pointer = p; defs = L })) (a_no 1 14 _ _ (omega arith) (omega arith)) (a_ok 1 14 _)
 
-layout_among : (T F : Bytes) (work records : ℕ) → Among 1 14 (layout T F work records)
+layout_among : (alone : Bool) (T F : Bytes) (work records : ℕ) → Among 1 14 (layout alone T F work records)
 unfolding layout layout_of layout_with
-layout_among T F work records =
+layout_among alone T F work records =
     a_then 1 14 (sheet_ok T) _ (a_wider 1 14 1 3 (sheet_ok T) (omega arith) (omega arith) (sheet_among T))
     (λ u. a_then 1 14 (schema_of F) _ (a_wider 1 14 4 6 (schema_of F) (omega arith) (omega arith) (schema_among F))
     (λ S. a_then 1 14 (needed ((winning S).struct (row T 0).a) 7) _ (a_needed 1 14 ((winning S).struct (row T 0).a) 7 (omega arith) (omega arith))
     (λ d. a_cond 1 14 (ltb work (work_need (index_entries S))) (refused 12) _ (a_no 1 14 _ _ (omega arith) (omega arith))
-    (laid_among (winning S) records _ (written (record { sheet = T; defs = winning S; charge_cap = cap_of work (index_entries S) }) d (fields_of T (row T 0)) empty_state)))))
+    (laid_among (winning S) records _ (written alone (record { sheet = T; defs = winning S; charge_cap = cap_of work (index_entries S) }) d (fields_of T (row T 0)) empty_state)))))
 
-pub build_among : (T F : Bytes) (work out records : ℕ) → Among 1 14 (build T F work out records)
+pub build_among : (alone : Bool) (T F : Bytes) (work out records : ℕ) → Among 1 14 (build alone T F work out records)
 unfolding build fitted
-build_among T F work out records =
-    a_then 1 14 (layout T F work records) _ (layout_among T F work records) (λ l. a_cond 1 14 (ltb out (length (packed l).file) || ltb 16777216 (length (packed l).file)) (refused 13) (ok (packed l)) (a_no 1 14 _ _ (omega arith) (omega arith)) (a_ok 1 14 _))
+build_among alone T F work out records =
+    a_then 1 14 (layout alone T F work records) _ (layout_among alone T F work records) (λ l. a_cond 1 14 (ltb out (length (packed l).file) || ltb 16777216 (length (packed l).file)) (refused 13) (ok (packed l)) (a_no 1 14 _ _ (omega arith) (omega arith)) (a_ok 1 14 _))

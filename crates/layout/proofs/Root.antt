@@ -4,54 +4,52 @@ use Rattle.std.specs.Prelude.{Option, Some, None}
 use Prim.Native.Nat.{ℕ, zero, suc, ◌+◌, ◌≤◌}
 use native.Mathlib.Omega.{arith}
 use mathlib.Core.Path.{◌≡◌, refl, sym, ◌∙◌, ap, subst}
+use mathlib.Core.Bool.{Bool}
 use mathlib.Core.List.{List, [], ◌∷◌, ◌++◌}
 use lib.ListN.{length}
 use Rattle.numbers.specs.Words.{Bytes}
 use Rattle.numbers.specs.Result.{nth}
-use Rattle.value.specs.Rows.{Fields, row}
+use Rattle.value.specs.Rows.{Fields, row, fields_of}
 use Rattle.schema.specs.Defs.{StructDef}
 use Rattle.pso.specs.Reader as R
 use Rattle.pso.specs.Blocks.{numbered}
-use Rattle.layout.specs.State.{Item, Block, Core, State, Env, Out, done, stop, M, after, bind, add_item, empty_state}
+use Rattle.layout.specs.State.{Item, Block, Core, State, Env, Out, done, stop, after, bind, lay_item, empty_state}
 use Rattle.layout.specs.Write.{root, write}
 use Rattle.layout.specs.Build.{Laid}
 use Rattle.layout.specs.Assemble.{joined, items_in}
-use Rattle.layout.specs.Demand3.{places_from, read_back, pointer_block, RootLast}
+use Rattle.layout.specs.Demand3.{places_from, read_back, pointer_block, RootLast, pointer_start}
 use Rattle.layout.specs.Always.{len_at, Tiled}
 use Rattle.layout.proofs.Items.{bytes_in, tile_rest}
-use Rattle.layout.proofs.Tiling.{tiled, says_block, says_start}
+use Rattle.layout.proofs.Tiling.{tiled, write_tiled, says_block, says_start}
 use Rattle.layout.proofs.Laying.{Added, Adds, adds}
 use Rattle.layout.proofs.Places.{place_length, own_tile}
 use Rattle.layout.proofs.Named.{named_winning}
+use Rattle.layout.proofs.Apart.{apart_law}
 use Rattle.layout.proofs.Made.{Made, env_of}
 
--- the root is laid, after what its members laid
+-- the root is laid, after what its members laid: its bytes, and what stood before it
 
-record Last (n p : ℕ) (c : Core) : Type 0 where
+record Last (alone : Bool) (E : Env) (d : StructDef) (fs : Fields) (p : ℕ) (u : State) : Type 0 where
   bytes : Bytes
-  earlier : Core
-  added : Added n bytes p earlier c
+  earlier : State
+  written : write E 96 32 d fs empty_state ≡ done bytes earlier
+  lays : lay_item alone d.name bytes earlier ≡ done p u
 
-abbrev Ended : ℕ → Out ℕ → Type 0
-Ended n (done p s) = Last n p s.core
-Ended n (stop e es) = Unit {0}
+root_parts : (alone : Bool) (E : Env) (d : StructDef) (fs : Fields) (p : ℕ) (u : State) → root E alone d fs empty_state ≡ done p u → Last alone E d fs p u
+unfolding root bind after
+root_parts alone E d fs p u = go (write E 96 32 d fs empty_state) refl
+  where
+    go : (o : Out Bytes) → write E 96 32 d fs empty_state ≡ o → after o (λ bs. lay_item alone d.name bs) ≡ done p u → Last alone E d fs p u
+    go (done bs t) e f = record { bytes = bs; earlier = t; written = e; lays = f }
+    go (stop n es) e f = let z : ◌≡◌ {A = ℕ} 0 1 = cc in absurd (omega arith)
 
-ended : (n : ℕ) (bs : Bytes) (c : Core) (o : Out ℕ) → Adds n bs c o → Ended n o
-ended n bs c (done p s) a = record { bytes = bs; earlier = c; added = a }
-ended n bs c (stop e es) a = tt
+module _ {alone : Bool} (T S : Bytes) (work : ℕ) (l : Laid) (m : Made alone T S work l) where
+  -- the root is laid last
+  last_laid : Last alone (env_of T m.schema work) m.def (fields_of T (row T 0)) l.pointer l.state
+  last_laid = root_parts alone (env_of T m.schema work) m.def (fields_of T (row T 0)) l.pointer l.state m.ran
 
-last_after : {A : Type 0} (n : ℕ) (k : A → M ℕ) → ((a : A) (s : State) → Ended n (k a s)) → (o : Out A) → Ended n (after o k)
-unfolding after
-last_after n k h (done a s) = h a s
-last_after n k h (stop e es) = tt
-
-root_ended : (E : Env) (d : StructDef) (fs : Fields) (s : State) → Ended d.name (root E d fs s)
-unfolding root bind
-root_ended E d fs s = last_after d.name (λ bs. add_item d.name bs) (λ bs t. ended d.name bs t.core (add_item d.name bs t) (adds d.name bs t)) (write E 96 32 d fs s)
-
--- the root is laid last
-last_laid : (T S : Bytes) (work : ℕ) (l : Laid) (m : Made T S work l) → Last m.def.name l.pointer l.state.core
-last_laid T S work l m = subst (Ended m.def.name) m.ran (root_ended (env_of T m.schema work) m.def _ empty_state)
+  root_added : Added m.def.name last_laid.bytes l.pointer last_laid.earlier.core l.state.core
+  root_added = subst (Adds m.def.name last_laid.bytes last_laid.earlier.core) last_laid.lays (adds alone m.def.name last_laid.bytes last_laid.earlier)
 
 nth_some : {A : Type 0} (l : List A) (k : ℕ) (a : A) → nth l k ≡ Some a → 1 ≤ length l
 unfolding nth
@@ -59,9 +57,9 @@ nth_some [] k a e = let z : ◌≡◌ {A = ℕ} 0 1 = cc in absurd (omega arith)
 nth_some (b ∷ l) k a e = omega arith
 
 -- .. so there is a block
-pub some_block : (T S : Bytes) (work : ℕ) (l : Laid) → Made T S work l → 1 ≤ length l.state.core.blocks
+pub some_block : {alone : Bool} (T S : Bytes) (work : ℕ) (l : Laid) → Made alone T S work l → 1 ≤ length l.state.core.blocks
 some_block T S work l m =
-    let e = (last_laid T S work l m).added.lays in
+    let e = (root_added T S work l m).lays in
     nth_some l.state.core.blocks e.before e.block e.filed
 
 place_named : (at k : ℕ) (bs : List Block) (b : Block) → nth bs k ≡ Some b → (r : R.Block) × (nth (places_from at bs) k ≡ Some r) × (r.name ≡ b.name)
@@ -82,11 +80,13 @@ ends_block c t a i k e q = omega (arith, tile_rest 0 (len_at k c.blocks) (items_
     nothing = unfold joined items_in in refl
 
 -- "The root is laid last; it need not start its block."
-pub root_last_law : (T S : Bytes) (work : ℕ) (l : Laid) → Made T S work l → RootLast T l (read_back l)
+pub root_last_law : {alone : Bool} (T S : Bytes) (work : ℕ) (l : Laid) → Made alone T S work l → RootLast alone T l (read_back l)
 unfolding read_back
-root_last_law T S work l m =
+root_last_law {alone} T S work l m =
     let c = l.state.core in
-    let a = (last_laid T S work l m).added in
+    let o = last_laid T S work l m in
+    let before : Tiled o.earlier.core = write_tiled (env_of T m.schema work) (row T 0).a m.def (fields_of T (row T 0)) o.bytes o.earlier m.def_is o.written in
+    let a = root_added T S work l m in
     let e = a.lays in
     let i = e.item in
     let k = e.before in
@@ -94,8 +94,11 @@ root_last_law T S work l m =
     let (b, nb, nm) = place_named 16 k c.blocks e.block e.filed in
     let says : pointer_block i.pointer ≡ suc k = says_block i a.formed a.most ∙ q in
     let root : pointer_block l.pointer ≡ suc k = ap pointer_block (sym e.pointer) ∙ says in
+    let ends : pointer_start i.pointer + length i.bytes ≡ b.length' =
+    ap (λ n. n + length i.bytes) (says_start i a.formed a.most) ∙ ends_block c (tiled T S work l m) o.earlier.core.items i k e.laid q
+    ∙ sym (place_length 16 k c.blocks b nb) in
     record {
-      earlier = (last_laid T S work l m).earlier.items;
+      earlier = o.earlier.core.items;
       item = i;
       block = b;
       last = e.laid;
@@ -103,5 +106,6 @@ root_last_law T S work l m =
       number = ap pointer_block (sym e.pointer);
       found = subst (λ n. numbered (places_from 16 c.blocks) n ≡ Some b) (sym root) nb;
       named = nm ∙ e.named ∙ (named_winning m.schema).structs (row T 0).a m.def m.def_is;
-      ends = ap (λ n. n + length i.bytes) (says_start i a.formed a.most) ∙ ends_block c (tiled T S work l m) (last_laid T S work l m).earlier.items i k e.laid q ∙ sym (place_length 16 k c.blocks b nb);
+      ends = ends;
+      apart = λ h. apart_law l m.def.name o.bytes o.earlier before (subst (λ w. lay_item w m.def.name o.bytes o.earlier ≡ done l.pointer l.state) h o.lays) a b ends;
     }

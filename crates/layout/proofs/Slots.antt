@@ -16,7 +16,7 @@ use Rattle.numbers.proofs.Laws.{length_over}
 use Rattle.value.specs.Rows.{Value, Fields, row, field_named, children_of, Map, Null}
 use Rattle.coerce.specs.Numbers.{str_of}
 use Rattle.schema.specs.Defs.{StructDef, Member}
-use Rattle.layout.specs.State.{State, Env, Out, done, stop, M, after, bind, ret, if_m, opt_m, remark, add_item}
+use Rattle.layout.specs.State.{State, Env, Out, done, stop, M, after, bind, ret, if_m, opt_m, remark, add_item, lay_item}
 use Rattle.layout.specs.Kinds
 use Rattle.layout.specs.Members.{row_of, reference_at, low16, says, leaves, need, wrong, is_pointer_text, slot_size, put_pointer, text_slot, pointer_member, text_member}
 use Rattle.layout.specs.Runs.{pointed, pointer_element, text_element}
@@ -55,7 +55,7 @@ module _ (E : Env) (fuel left : ℕ) (d : StructDef) (e : Member) (v : Value) (b
   unfolding member struct_member pointed_member need if_m bind opt_m
   struct_member_law i bs t k b h m f g =
       rw (k, b, h, m, pointed_is_law E w.afresh d e e.reference (row_of E v) s i bs t f g, there)
-      (points i.name bs t.core e.offset _ (λ p q. put_read buf e.offset p (omega (arith, leb-true (e.offset + 8) d.size h, l)) q) (add_item i.name bs t) (adds i.name bs t))
+      (points i.name bs t.core e.offset _ (λ p q. put_read buf e.offset p (omega (arith, leb-true (e.offset + 8) d.size h, l)) q) (add_item i.name bs t) (adds false i.name bs t))
 
   text_only_law : Kinds.kind_of e.type ≡ Kinds.text → is_pointer_text e.subtype ≡ true → PutsOnly s.core buf e.offset (step E w d e v buf s)
   unfolding member text_member pointer_member if_m
@@ -139,7 +139,7 @@ module _ (E : Env) where
   unfolding pointer_element if_m bind
   struct_elements_law w d e ref r s i bs t k f g =
       rw (k, pointed_is_law E w d e ref (row E.sheet r) s i bs t f g, there)
-      (points_first i.name bs t.core _ (λ p q. put_read (zeros 8) 0 p (omega arith) q) (add_item i.name bs t) (adds i.name bs t))
+      (points_first i.name bs t.core _ (λ p q. put_read (zeros 8) 0 p (omega arith) q) (add_item i.name bs t) (adds false i.name bs t))
 
   empty_elements_law : EmptyElements E
   unfolding pointer_element if_m bind after ret pointed opt_m says remark put_pointer over bytes_of
@@ -149,9 +149,10 @@ module _ (E : Env) where
   unfolding text_element text_slot if_m bind after ret
   empty_texts_law sub r s z = rw z refl
 
-  root_laid : (d : StructDef) (fs : Fields) (s : State) (bs : Bytes) (t : State) → write E 96 32 d fs s ≡ done bs t → PointsRoot d.name bs t.core (root E d fs s)
+  root_laid : (alone : Bool) (d : StructDef) (fs : Fields) (s : State) (bs : Bytes) (t : State) → write E 96 32 d fs s ≡ done bs t
+      → PointsRoot d.name bs t.core (root E alone d fs s)
   unfolding root bind after
-  root_laid d fs s bs t e = rw e (go (add_item d.name bs t) (adds d.name bs t))
+  root_laid alone d fs s bs t e = rw e (go (lay_item alone d.name bs t) (adds alone d.name bs t))
     where
       go : (o : Out ℕ) → Adds d.name bs t.core o → PointsRoot d.name bs t.core o
       go (done p u) a = a.lays

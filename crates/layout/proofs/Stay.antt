@@ -1,13 +1,13 @@
 -- What was laid stays: items are only added, blocks keep their numbers and names: `laid_stays_law`.
 -- Assumes nothing.
-use Rattle.std.specs.Prelude.{Option, Some}
+use Rattle.std.specs.Prelude.{Option, Some, Bool}
 use Prim.Native.Nat.{ℕ}
 use mathlib.Core.Path.{◌≡◌}
 use mathlib.Core.List.{List}
 use Rattle.numbers.specs.Words.{Bytes}
 use Rattle.value.specs.Rows.{Fields}
 use Rattle.schema.specs.Defs.{StructDef, Member}
-use Rattle.layout.specs.State.{Core, Env, Out, done, stop, M, use_struct_c, use_enum_c, add_item, add_item_c}
+use Rattle.layout.specs.State.{Core, Env, Out, done, stop, M, use_struct_c, use_enum_c, lay_item_c, lay_item}
 use Rattle.layout.specs.Kinds
 use Rattle.layout.specs.Runs.{run, struct_element, elements, element_run}
 use Rattle.layout.specs.Write.{writers, pair_element, write}
@@ -16,16 +16,16 @@ use Rattle.layout.specs.Parts.{Stays, OnlyAdds, LaidStays}
 use Rattle.layout.proofs.Keep.{Claim, Okay, Keeps, k_ret, k_bind, k_if, r_keeps}
 use Rattle.layout.proofs.Writers.{Prims, k_says, k_elements, k_run, k_element_run, k_text_element, k_pointer_element, k_member, k_members, k_write, k_root}
 use Rattle.layout.proofs.Laying.{further_same, further_then, further_file}
-use Rattle.layout.proofs.CoreOnly.{Any, on_core, c_remark, c_pay, c_core, c_use_struct, c_use_enum, add_item_c_ok}
+use Rattle.layout.proofs.CoreOnly.{Any, on_core, c_remark, c_pay, c_core, c_use_struct, c_use_enum, lay_item_c_ok}
 
 -- the claim that what stood in c stands
 abbrev pub standing : Core → Claim
 standing c = on_core Any (Further c)
 
-stay_item : (a : Core) (n : ℕ) (bs : Bytes) → Keeps (standing a) (add_item n bs)
-unfolding add_item
-stay_item a n bs =
-    c_core Any (Further a) (add_item_c n bs) 10 (λ c q. add_item_c_ok Any (Further a) n bs c (λ x y. further_then a c _ q (further_file bs n c)))
+stay_item : (alone : Bool) (a : Core) (n : ℕ) (bs : Bytes) → Keeps (standing a) (lay_item alone n bs)
+unfolding lay_item
+stay_item alone a n bs =
+    c_core Any (Further a) (lay_item_c alone n bs) 10 (λ c q. lay_item_c_ok Any (Further a) alone n bs c (λ x y. further_then a c _ q (further_file alone bs n c)))
 
 pub stay_prims : (E : Env) (a : Core) → Prims E (standing a)
 unfolding use_struct_c use_enum_c
@@ -37,7 +37,7 @@ stay_prims E a =
       pay_keeps = c_pay Any (Further a) E;
       struct_keeps = λ d u. c_use_struct Any (Further a) d.name (λ c q. record { more_items = q.more_items; items = q.items; more_blocks = q.more_blocks; blocks = q.blocks });
       enum_keeps = λ n e. c_use_enum Any (Further a) n (λ c q. record { more_items = q.more_items; items = q.items; more_blocks = q.more_blocks; blocks = q.blocks });
-      add_keeps = λ n bs u. stay_item a n bs;
+      add_keeps = λ alone n bs u. stay_item alone a n bs;
       found = λ n d e. (tt, tt);
       named = λ d u. tt;
       small = λ n h. tt;
@@ -106,7 +106,7 @@ module _ (E : Env) where
         pair = λ fuel left i p. only_adds _ (λ a. stay_pair a fuel left i p);
         elements_behind = each;
         pairs_behind = each;
-        item = λ n bs. only_adds _ (λ a. stay_item a n bs);
+        item = λ alone n bs. only_adds _ (λ a. stay_item alone a n bs);
         whole = λ fuel left d fs. only_adds _ (λ a. stay_write a fuel left d fs);
-        root = λ d fs. only_adds _ (λ a. k_root E (standing a) (stay_prims E a) d fs (any_start E a d));
+        root = λ alone d fs. only_adds _ (λ a. k_root E (standing a) (stay_prims E a) alone d fs (any_start E a d));
       }

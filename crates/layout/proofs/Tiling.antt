@@ -4,9 +4,9 @@ use Rattle.std.specs.Prelude.{Some}
 use Prim.Native.Nat.{ℕ, zero, suc, ◌+◌, ◌≤◌, ◌<◌}
 use native.Mathlib.Omega.{arith}
 use mathlib.Core.Path.{◌≡◌, refl, ap, subst}
-use mathlib.Core.Bool.{Bool, true, false, cond, ◌&&◌}
+use mathlib.Core.Bool.{Bool, true, false, cond}
 use mathlib.Core.List.{List, [], ◌∷◌, ◌++◌, append-nil}
-use lib.Dec.{eqb, leb}
+use lib.Dec.{eqb}
 use lib.ListN.{length}
 use borrow.Author.Tests.{eqb-true, eqb-false, leb-true}
 use Rattle.numbers.specs.Words.{Bytes}
@@ -14,15 +14,15 @@ use Rattle.numbers.specs.Result.{Every}
 use Rattle.numbers.proofs.Bytes.{every_append}
 use Rattle.value.specs.Rows.{Fields}
 use Rattle.schema.specs.Defs.{StructDef}
-use Rattle.layout.specs.State.{Item, Block, Core, State, empty_state, Env, done, Spot, spot, past, pointer_at, file, max_block, use_struct_c, use_enum_c}
+use Rattle.layout.specs.State.{Item, Block, Core, State, empty_state, Env, done, Spot, spot, past, pointer_at, file, use_struct_c, use_enum_c}
 use Rattle.layout.specs.Assemble.{items_in}
-use Rattle.layout.specs.Write.{root}
+use Rattle.layout.specs.Write.{write, root}
 use Rattle.layout.specs.Build.{Laid}
 use Rattle.layout.specs.Demand3.{ItemsTile, pointer_block, pointer_start}
 use Rattle.layout.specs.Always.{len_at, AllIn, Formed, Tiled}
 use Rattle.layout.proofs.Items.{items_in_append, tile_snoc}
 use Rattle.layout.proofs.Keep.{Okay, Keeps}
-use Rattle.layout.proofs.Writers.{Prims, k_root}
+use Rattle.layout.proofs.Writers.{Prims, k_write, k_root}
 use Rattle.layout.proofs.CoreOnly.{Any, allows_any, on_core, core_prims}
 use Rattle.layout.proofs.Made.{Made, env_of, reached}
 
@@ -33,11 +33,11 @@ abbrev pub at_end : ℕ → ℕ → Block → List Block → Spot
 at_end n need b bs = record { before = 0; start = b.len; blocks = record { name = n; len = b.len + need } ∷ bs }
 
 -- an item goes to the end of the first block, or further on
-pub spot_case : (P : Spot → Type 0) (n need : ℕ) (b : Block) (bs : List Block) → P (at_end n need b bs) → P (past b (spot n need bs)) → P (spot n need (b ∷ bs))
+pub spot_case : (alone : Bool) (P : Spot → Type 0) (n need : ℕ) (b : Block) (bs : List Block) → P (at_end n need b bs) → P (past b (spot alone n need bs)) → P (spot alone n need (b ∷ bs))
 unfolding spot
-spot_case P n need b bs p q = go (eqb b.name n && leb (b.len + need) max_block)
+spot_case alone P n need b bs p q = go _
   where
-    go : (t : Bool) → P (cond t (at_end n need b bs) (past b (spot n need bs)))
+    go : (t : Bool) → P (cond t (at_end n need b bs) (past b (spot alone n need bs)))
     go true = p
     go false = q
 
@@ -64,13 +64,13 @@ beyond need b bs p g = record { start_is = g.start_is; grown = g.grown; others =
     o zero h = refl
     o (suc k) h = g.others k (λ e. h (ap suc e))
 
-spot_good : (n need : ℕ) (bs : List Block) → Good need bs (spot n need bs)
-spot_good n need [] = unfold spot len_at in (record { start_is = refl; grown = omega arith; others = o; inside = omega arith; more = omega arith })
+spot_good : (alone : Bool) (n need : ℕ) (bs : List Block) → Good need bs (spot alone n need bs)
+spot_good alone n need [] = unfold spot len_at in (record { start_is = refl; grown = omega arith; others = o; inside = omega arith; more = omega arith })
   where
     o : (k : ℕ) → (0 ≡ k → ⊥) → len_at k (record { name = n; len = need } ∷ []) ≡ len_at k []
     o zero h = absurd (h refl)
     o (suc k) h = unfold len_at in refl
-spot_good n need (b ∷ bs) = spot_case (Good need (b ∷ bs)) n need b bs (here n need b bs) (beyond need b bs (spot n need bs) (spot_good n need bs))
+spot_good alone n need (b ∷ bs) = spot_case alone (Good need (b ∷ bs)) n need b bs (here n need b bs) (beyond need b bs (spot alone n need bs) (spot_good alone n need bs))
 
 -- an item among others
 pub all_mid : (n : ℕ) (a : List Item) (i : Item) (b : List Item) → AllIn n (a ++ (i ∷ b))
@@ -110,18 +110,26 @@ pub tiled_prims : (E : Env) → Prims E (on_core Any Tiled)
 unfolding use_struct_c use_enum_c
 tiled_prims E =
     core_prims Any Tiled E (allows_any E) (λ d c k q. record { tiles = q.tiles; within = q.within; formed = q.formed }) (λ n c e q. record { tiles = q.tiles; within = q.within; formed = q.formed })
-    (λ n bs c u a b q. tiled_file bs c _ (spot_good n (length bs) c.blocks) (leb-true _ _ a) (leb-true _ _ b) q)
+    (λ alone n bs c u a b q. tiled_file bs c _ (spot_good alone n (length bs) c.blocks) (leb-true _ _ a) (leb-true _ _ b) q)
 
 -- of every layout
-pub tiled : (T S : Bytes) (work : ℕ) (l : Laid) → Made T S work l → Tiled l.state.core
+pub tiled : {alone : Bool} (T S : Bytes) (work : ℕ) (l : Laid) → Made alone T S work l → Tiled l.state.core
 unfolding items_in len_at
 tiled T S work l m = reached T S work l m (on_core Any Tiled) (tiled_prims (env_of T m.schema work)) (record { tiles = λ k. refl; within = tt; formed = tt })
 
--- of every run of the root that comes to an end
-pub root_tiled : (E : Env) (name : ℕ) (d : StructDef) (fs : Fields) (pointer : ℕ) (s : State) → E.defs.struct name ≡ Some d → root E d fs empty_state ≡ done pointer s → Tiled s.core
+-- of what stands when the root is written, before it is laid
+pub write_tiled : (E : Env) (name : ℕ) (d : StructDef) (fs : Fields) (bs : Bytes) (t : State) → E.defs.struct name ≡ Some d
+    → write E 96 32 d fs empty_state ≡ done bs t → Tiled t.core
 unfolding Keeps items_in len_at
-root_tiled E name d fs pointer s e r =
-    subst (Okay (on_core Any Tiled)) r (k_root E (on_core Any Tiled) (tiled_prims E) d fs ((tiled_prims E).found name d e).0 empty_state (record { tiles = λ k. refl; within = tt; formed = tt }))
+write_tiled E name d fs bs t e r =
+    subst (Okay (on_core Any Tiled)) r (k_write E (on_core Any Tiled) (tiled_prims E) 96 32 d fs ((tiled_prims E).found name d e).0 empty_state (record { tiles = λ k. refl; within = tt; formed = tt }))
+
+-- of every run of the root that comes to an end
+pub root_tiled : (alone : Bool) (E : Env) (name : ℕ) (d : StructDef) (fs : Fields) (pointer : ℕ) (s : State) → E.defs.struct name ≡ Some d
+    → root E alone d fs empty_state ≡ done pointer s → Tiled s.core
+unfolding Keeps items_in len_at
+root_tiled alone E name d fs pointer s e r =
+    subst (Okay (on_core Any Tiled)) r (k_root E (on_core Any Tiled) (tiled_prims E) alone d fs ((tiled_prims E).found name d e).0 empty_state (record { tiles = λ k. refl; within = tt; formed = tt }))
 
 -- the number formed when an item is laid says its block and its start
 

@@ -12,7 +12,7 @@ use borrow.Author.Tests.{eqb-true, eq-eqb}
 use Rattle.numbers.specs.Result.{given, Every}
 use Rattle.numbers.specs.Words.{Bytes}
 use Rattle.schema.specs.Defs.{struct_name, enum_name, winning}
-use Rattle.layout.specs.State.{State, Env, Spot, spot, pointer_at, done, stop, bind, after, remark, pay, with_charge, contains, insert, log_start, log_enum, use_struct, use_struct_c, use_enum, use_enum_c, add_item, add_item_c, file, settle}
+use Rattle.layout.specs.State.{State, Env, Spot, spot, pointer_at, done, stop, bind, after, remark, pay, with_charge, contains, insert, log_start, log_enum, use_struct, use_struct_c, use_enum, use_enum_c, lay_item_c, file, settle, lay_item}
 use Rattle.layout.specs.State.{on_core as changes}
 use Rattle.layout.specs.Assemble.{found, cons_option, used_of}
 use Rattle.layout.specs.Build.{Laid}
@@ -104,7 +104,7 @@ known_prims E w =
       structs_known = q.structs_known;
       enums_known = known_insert E.defs.enum n c.enums e q.enums_known;
     })
-    (λ n bs c u a b q. record { structs_once = q.structs_once; enums_once = q.enums_once; structs_known = q.structs_known; enums_known = q.enums_known })
+    (λ alone n bs c u a b q. record { structs_once = q.structs_once; enums_once = q.enums_once; structs_known = q.structs_known; enums_known = q.enums_known })
 
 -- the names that the file is made from are those that the log has
 
@@ -120,12 +120,12 @@ paid : (s : State) (n : ℕ) (b : Bool) → Logged s → Okay (always Logged) (c
 paid s n true q = record { structs = q.structs; enums = q.enums }
 paid s n false q = tt
 
-filed : (n : ℕ) (bs : Bytes) (s : State) → Logged s → Okay (always Logged) (add_item n bs s)
-unfolding add_item changes add_item_c settle file
-filed n bs s q = go (leb (suc at.before) 4095 && leb at.start 0xFFFFF)
+filed : (alone : Bool) (n : ℕ) (bs : Bytes) (s : State) → Logged s → Okay (always Logged) (lay_item alone n bs s)
+unfolding lay_item changes lay_item_c settle file
+filed alone n bs s q = go (leb (suc at.before) 4095 && leb at.start 0xFFFFF)
   where
     at : Spot
-    at = spot n (length bs) s.core.blocks
+    at = spot alone n (length bs) s.core.blocks
 
     go : (b : Bool) → Okay (always Logged) (settle s 10 (given b (pointer_at at, file bs (pointer_at at) s.core at)))
     go true = record { structs = q.structs; enums = q.enums }
@@ -141,7 +141,7 @@ logged_prims E =
       pay_keeps = λ n s q. paid s n (leb (s.charge + n) E.charge_cap) q;
       struct_keeps = λ d k s q. record { structs = entered d.name s.core.structs s.uses.started q.structs; enums = q.enums };
       enum_keeps = λ n e s q. record { structs = q.structs; enums = entered n s.core.enums s.uses.enums q.enums };
-      add_keeps = λ n bs u s q. filed n bs s q;
+      add_keeps = λ alone n bs u s q. filed alone n bs s q;
       found = λ n d e. ((n, e), tt);
       named = λ d k. tt;
       small = λ n h. tt;
@@ -174,7 +174,7 @@ module _ {A : Type 0} (name_of : A → ℕ) (f : ℕ → Option A) (named : (n :
 
 -- of every layout
 
-module _ (T S : Bytes) (work : ℕ) (l : Laid) (m : Made T S work l) where
+module _ {alone : Bool} (T S : Bytes) (work : ℕ) (l : Laid) (m : Made alone T S work l) where
   pub known : Known (winning m.schema) l.state.core
   unfolding count contains
   known =

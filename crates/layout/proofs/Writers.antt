@@ -14,7 +14,7 @@ use Rattle.value.specs.Rows.{Value, Row, Fields}
 use Rattle.coerce.specs.Numbers.{Fit}
 use Rattle.names.specs.Names.{Entries}
 use Rattle.schema.specs.Defs.{StructDef, Member}
-use Rattle.layout.specs.State.{Env, M, Remark, fail, fit_m, remark, pay, use_struct, use_enum, add_item}
+use Rattle.layout.specs.State.{Env, M, Remark, fail, fit_m, remark, pay, use_struct, use_enum, add_item, lay_item}
 use Rattle.layout.specs.Kinds
 use Rattle.layout.specs.Members.{says, leaves, need, wrong, scalar_member, add_string, text_slot, fixed_member, pointer_member, hash_member, text_member, use_enum_of, named_member, enum_member, flags_member}
 use Rattle.layout.specs.Runs.{Writer, Run, scalar_block, elements, run, stops, pointed, pointer_element, struct_element, text_element, fixed_element, hash_element, enum_element, scalar_element, struct_run, fixed_run, text_run, enum_run, element_run}
@@ -37,17 +37,17 @@ pub record Prims (E : Env) (C : Claim) : Type 1 where
   pub pay_keeps : (n : ℕ) → Keeps C (pay E n)
   pub struct_keeps : (d : StructDef) → starts d → Keeps C (use_struct d.name)
   pub enum_keeps : (n : ℕ) → is_some (E.defs.enum n) ≡ true → Keeps C (use_enum n)
-  pub add_keeps : (n : ℕ) (bs : Bytes) → C.files n → Keeps C (add_item n bs)
+  pub add_keeps : (alone : Bool) (n : ℕ) (bs : Bytes) → C.files n → Keeps C (lay_item alone n bs)
   pub found : (n : ℕ) (d : StructDef) → E.defs.struct n ≡ Some d → starts d × C.files n
   pub named : (d : StructDef) → starts d → C.files d.name
   pub small : (n : ℕ) → n ≤ 200 → C.files n
 
 module _ (E : Env) (C : Claim) (h : Prims E C) where
   add_named : (n : ℕ) (d : StructDef) (bs : Bytes) → E.defs.struct n ≡ Some d → Keeps C (add_item d.name bs)
-  add_named n d bs q = h.add_keeps d.name bs (h.named d (h.found n d q).0)
+  add_named n d bs q = h.add_keeps false d.name bs (h.named d (h.found n d q).0)
 
   add_text : (bs : Bytes) → Keeps C (add_item 1 bs)
-  add_text bs = h.add_keeps 1 bs (h.small 1 (omega arith))
+  add_text bs = h.add_keeps false 1 bs (h.small 1 (omega arith))
 
   k_fails : (A : Type 0) → Keeps {A = A} C (fail 8)
   k_fails A = k_deep C A h.refusable
@@ -125,7 +125,7 @@ module _ (E : Env) (C : Claim) (h : Prims E C) where
 
   pub k_laid_run : (m : M (Option Run)) (n off : ℕ) (buf : Bytes) → KeepsRun C m → Keeps C (laid_run m n off buf)
   unfolding laid_run
-  k_laid_run m n off buf hm = l_bind C m _ _ hm (k_ret C buf) (λ r p. k_bind C _ _ (h.add_keeps r.block r.bytes p) (λ q. k_ret C _))
+  k_laid_run m n off buf hm = l_bind C m _ _ hm (k_ret C buf) (λ r p. k_bind C _ _ (h.add_keeps false r.block r.bytes p) (λ q. k_ret C _))
 
   -- w keeps it, whatever structure of a definition in E it writes
   abbrev pub Keeping : Writer → Type 0
@@ -271,9 +271,9 @@ module _ (E : Env) (C : Claim) (h : Prims E C) where
   k_write (suc fuel) left d fs q =
       k_if C _ _ _ (k_fails Bytes) (k_started _ (λ n i gs e. k_write fuel _ i gs (h.found n i e).0) (λ n i gs e. k_write fuel _ i gs (h.found n i e).0) d fs q)
 
-  pub k_root : (d : StructDef) (fs : Fields) → h.starts d → Keeps C (root E d fs)
+  pub k_root : (alone : Bool) (d : StructDef) (fs : Fields) → h.starts d → Keeps C (root E alone d fs)
   unfolding root
-  k_root d fs q = search (along, add_root, k_write 96 32 d fs q)
+  k_root alone d fs q = search (along, add_root, k_write 96 32 d fs q)
     where
-      add_root : (bs : Bytes) → Keeps C (add_item d.name bs)
-      add_root bs = h.add_keeps d.name bs (h.named d q)
+      add_root : (bs : Bytes) → Keeps C (lay_item alone d.name bs)
+      add_root bs = h.add_keeps alone d.name bs (h.named d q)

@@ -1,5 +1,5 @@
 -- Building: the order of refusals, and what stands in the lent buffers after the call.
-use Rattle.std.specs.Prelude.{ℕ, ◌+◌, ◌-◌, ◌*◌, ◌/◌, min, cond, ◌||◌, List, ◌++◌, ltb, length, drop, replicate}
+use Rattle.std.specs.Prelude.{ℕ, ◌+◌, ◌-◌, ◌*◌, ◌/◌, min, Bool, cond, ◌||◌, List, ◌++◌, ltb, length, drop, replicate}
 use Rattle.numbers.specs.Words.{Bytes, zeros}
 use Rattle.numbers.specs.Result.{Result, ok, refused, and_then, needed}
 use Rattle.value.specs.Rows.{row, fields_of}
@@ -48,18 +48,19 @@ laid_from L records (stop n es) = within records es (refused n)
 laid_from L records (done p s) = within records s.events (ok (record { state = s; pointer = p; defs = L }))
 
 -- "8, 9, 10, 11, 14 as first met in writing order"
-unfoldable pub layout_with : Env → ℕ → StructDef → Result Laid
-layout_with E records d = laid_from E.defs records (root E d (fields_of E.sheet (row E.sheet 0)) empty_state)
+unfoldable pub layout_with : Bool → Env → ℕ → StructDef → Result Laid
+layout_with alone E records d = laid_from E.defs records (root E alone d (fields_of E.sheet (row E.sheet 0)) empty_state)
 
 -- 7: "the root type has no definition"; then 12. i index entries
-unfoldable pub layout_of : Bytes → Lookup → ℕ → ℕ → ℕ → Result Laid
-layout_of T L i work records =
+unfoldable pub layout_of : Bool → Bytes → Lookup → ℕ → ℕ → ℕ → Result Laid
+layout_of alone T L i work records =
     and_then (needed (L.struct (row T 0).a) 7) λ d.
-    cond (ltb work (work_need i)) (refused 12) (layout_with (record { sheet = T; defs = L; charge_cap = cap_of work i }) records d)
+    cond (ltb work (work_need i)) (refused 12) (layout_with alone (record { sheet = T; defs = L; charge_cap = cap_of work i }) records d)
 
--- the layout applied to a sheet and a schema file
-unfoldable pub layout : Bytes → Bytes → ℕ → ℕ → Result Laid
-layout T F work records = and_then (sheet_ok T) λ _. and_then (schema_of F) λ S. layout_of T (winning S) (index_entries S) work records
+-- the layout applied to a sheet and a schema file, with the root in a new last block or not: "it meets document 01's layout with this one rule altered"
+unfoldable pub layout : Bool → Bytes → Bytes → ℕ → ℕ → Result Laid
+layout alone T F work records =
+    and_then (sheet_ok T) λ _. and_then (schema_of F) λ S. layout_of alone T (winning S) (index_entries S) work records
 
 -- the file and the remarks
 unfoldable pub packed : Laid → Built
@@ -70,8 +71,8 @@ unfoldable pub fitted : ℕ → Built → Result Built
 fitted out b = cond (ltb out (length b.file) || ltb 16777216 (length b.file)) (refused 13) (ok b)
 
 -- "Order of building: 1, 2, 3; sections in file order (4, 5, 6); 7; 12; then 8, 9, 10, 11, 14 as first met in writing order, 8 before 9; last 13."
-unfoldable pub build : Bytes → Bytes → ℕ → ℕ → ℕ → Result Built
-build T F work out records = and_then (layout T F work records) λ l. fitted out (packed l)
+unfoldable pub build : Bool → Bytes → Bytes → ℕ → ℕ → ℕ → Result Built
+build alone T F work out records = and_then (layout alone T F work records) λ l. fitted out (packed l)
 
 -- "Success gives the file's length and the remark count"; "A refusal gives its number"
 pub data Answer : Type 0 where
@@ -106,9 +107,9 @@ afterwards work out records (ok b) =
       work = zeros work;
     }
 
--- the call: a sheet, a schema file, a work area of `work` bytes, the output, `records` remark records
-unfoldable pub build_pso : Bytes → Bytes → ℕ → Bytes → ℕ → After
-build_pso T F work out records = afterwards work out records (build T F work (length out) records)
+-- the call: the way, a sheet, a schema file, a work area of `work` bytes, the output, `records` remark records
+unfoldable pub build_pso : Bool → Bytes → Bytes → ℕ → Bytes → ℕ → After
+build_pso alone T F work out records = afterwards work out records (build alone T F work (length out) records)
 
 -- for evaluation
 unfoldable pub evaluated : ℕ → ℕ

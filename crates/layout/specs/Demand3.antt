@@ -63,9 +63,17 @@ pub record Stands (P : R.Pso) (i : Item) : Type 0 where
   pub found : numbered P.blocks (pointer_block i.pointer) ≡ Some block
   pub bytes : take (length i.bytes) (drop (block.place + pointer_start i.pointer) P.data') ≡ i.bytes
 
+-- the root's item i has the block b for itself: its pointer, whose start is 0, is the block's number, which is the number of blocks; no other item is
+-- filed there, and its bytes are all of the block
+pub record Apart (l : Laid) (P : R.Pso) (i : Item) (b : R.Block) : Type 0 where
+  pub number : l.pointer ≡ P.root
+  pub last : P.root ≡ length P.blocks
+  pub only : items_in P.root l.state.core.items ≡ i ∷ []
+  pub all : length i.bytes ≡ b.length'
+
 -- "The root is laid last; it need not start its block.": it is the last item, it has the pointer that the layout answers, F's root number is the block
--- number of that pointer, the block has the name of the root's type, and the root's bytes are its last
-pub record RootLast (T : Bytes) (l : Laid) (P : R.Pso) : Type 0 where
+-- number of that pointer, the block has the name of the root's type, and the root's bytes are its last. In the second way "the root always gets a new last block"
+pub record RootLast (alone : Bool) (T : Bytes) (l : Laid) (P : R.Pso) : Type 0 where
   pub earlier : List Item
   pub item : Item
   pub block : R.Block
@@ -75,6 +83,7 @@ pub record RootLast (T : Bytes) (l : Laid) (P : R.Pso) : Type 0 where
   pub found : numbered P.blocks P.root ≡ Some block
   pub named : block.name ≡ (row T 0).a
   pub ends : pointer_start item.pointer + length item.bytes ≡ block.length'
+  pub apart : alone ≡ true → Apart l P item block
 
 -- definitions
 
@@ -97,13 +106,13 @@ pub record CarriesUsed (L : Lookup) (u : Uses) (K : Schema) : Type 0 where
 
 -- the rebuild
 
--- the call with F as schema file, `work` bytes of work area and any output of `out` bytes. "Enough remark records are as many as the rebuild has distinct
--- remarks": with as many it answers F's length and has F at the front of the output, with fewer it is 14
-pub record Rebuilds (T F : Bytes) (work out : ℕ) : Type 0 where
+-- the call with F as schema file, the same way, `work` bytes of work area and any output of `out` bytes. "Enough remark records are as many as the rebuild
+-- has distinct remarks": with as many it answers F's length and has F at the front of the output, with fewer it is 14
+pub record Rebuilds (alone : Bool) (T F : Bytes) (work out : ℕ) : Type 0 where
   pub distinct : ℕ
-  pub answers : (buffer : Bytes) (records : ℕ) → length buffer ≡ out → distinct ≤ records → (build_pso T F work buffer records).answer ≡ success (length F) distinct
-  pub same : (buffer : Bytes) (records : ℕ) → length buffer ≡ out → distinct ≤ records → take (length F) (build_pso T F work buffer records).output ≡ F
-  pub fewer : (buffer : Bytes) (records : ℕ) → length buffer ≡ out → records < distinct → (build_pso T F work buffer records).answer ≡ refusal 14
+  pub answers : (buffer : Bytes) (records : ℕ) → length buffer ≡ out → distinct ≤ records → (build_pso alone T F work buffer records).answer ≡ success (length F) distinct
+  pub same : (buffer : Bytes) (records : ℕ) → length buffer ≡ out → distinct ≤ records → take (length F) (build_pso alone T F work buffer records).output ≡ F
+  pub fewer : (buffer : Bytes) (records : ℕ) → length buffer ≡ out → records < distinct → (build_pso alone T F work buffer records).answer ≡ refusal 14
 
 -- "Lost are the maps without pairs that the layout with F as schema file leaves unwritten": there are none. A supported map without pairs that fits
 -- "still holds 0x01000000", whatever definitions E has
@@ -115,18 +124,19 @@ NoMapLost =
 
 -- all of it
 
--- demand 3 of a pack F that was built from the sheet T and the schema file S, with `work` bytes of work area, `out` bytes of output and `records` remark records
-pub record Demand3 (T S : Bytes) (work out records : ℕ) (F : Bytes) : Type 0 where
+-- demand 3 of a pack F that was built from the sheet T and the schema file S, with the root alone or not, with `work` bytes of work area, `out` bytes of
+-- output and `records` remark records
+pub record Demand3 (alone : Bool) (T S : Bytes) (work out records : ℕ) (F : Bytes) : Type 0 where
   -- "the layout applied to T and S gives items, pointers and uses"
   pub laid : Laid
-  pub layout_gives : layout T S work records ≡ ok laid
+  pub layout_gives : layout alone T S work records ≡ ok laid
   -- the definitions of S
   pub schema : Schema
   pub schema_gives : schema_of S ≡ ok schema
   -- the layout is this run: the root's definition is written with the root's values, from nothing
   pub root_def : StructDef
   pub root_found : (winning schema).struct (row T 0).a ≡ Some root_def
-  pub ran : root (env_of T schema work) root_def (fields_of T (row T 0)) empty_state ≡ done laid.pointer laid.state
+  pub ran : root (env_of T schema work) alone root_def (fields_of T (row T 0)) empty_state ≡ done laid.pointer laid.state
   -- the reader accepts F
   pub read : R.Pso
   pub accepts : R.parse_pso F ≡ ok read
@@ -151,18 +161,19 @@ pub record Demand3 (T S : Bytes) (work out records : ℕ) (F : Bytes) : Type 0 w
   -- no step takes an item away or renames a block
   pub laid_stays : LaidStays (env_of T schema work)
   -- "The root is laid last; it need not start its block."
-  pub root_last : RootLast T laid read
+  pub root_last : RootLast alone T laid read
   -- "PSCH has each used definition once, with the members or entries of S's winning one; a structure and an enum of one name are two."
   pub carries_used : CarriesUsed (winning schema) laid.state.uses read.schema
-  -- building T again, with F as schema file, with work and output as long as before and enough remark records, gives F
-  pub rebuilds : Rebuilds T F work out
+  -- building T again the same way, with F as schema file, with work and output as long as before and enough remark records, gives F
+  pub rebuilds : Rebuilds alone T F work out
 
--- every pack: if the call answers success with length n, the first n bytes of the output are a file of which demand 3 holds.
+-- every pack, built in either way: if the call answers success with length n, the first n bytes of the output are a file of which demand 3 holds.
 -- S is a list of bytes, as a slice of the code is
 abbrev pub EveryPack : Type 0
 EveryPack =
-    (T S : Bytes) (work : ℕ) (out : Bytes) (records n m : ℕ) → Octets S → (build_pso T S work out records).answer ≡ success n m
-    → (length (take n (build_pso T S work out records).output) ≡ n) × Demand3 T S work (length out) records (take n (build_pso T S work out records).output)
+    (alone : Bool) (T S : Bytes) (work : ℕ) (out : Bytes) (records n m : ℕ) → Octets S → (build_pso alone T S work out records).answer ≡ success n m
+    → (length (take n (build_pso alone T S work out records).output) ≡ n)
+    × Demand3 alone T S work (length out) records (take n (build_pso alone T S work out records).output)
 
 -- for evaluation
 unfoldable pub evaluated : ℕ → ℕ

@@ -11,4 +11,5 @@ pub mod Slots
 pub mod Parts
 pub mod Demand3
 pub mod Always
+pub mod Ways
 pub mod Eval

@@ -1,9 +1,9 @@
 -- What the parts of a layout make: a structure's length, what its bytes and a run's bytes are put together from, and that what was laid stays.
-use Rattle.std.specs.Prelude.{ℕ, suc, ◌+◌, ◌-◌, ◌≡◌, true, false, List, ◌∷◌, ◌++◌, eqb, leb, length, take, Option, Some}
+use Rattle.std.specs.Prelude.{ℕ, suc, ◌+◌, ◌-◌, ◌≡◌, Bool, true, false, List, ◌∷◌, ◌++◌, eqb, leb, length, take, Option, Some}
 use Rattle.numbers.specs.Words.{Bytes, over}
 use Rattle.value.specs.Rows.{Value, Fields, row, fields_of, field_named, children_of}
 use Rattle.schema.specs.Defs.{StructDef, Member}
-use Rattle.layout.specs.State.{Core, State, Env, Out, done, stop, M, add_item}
+use Rattle.layout.specs.State.{Core, State, Env, Out, done, stop, M, lay_item}
 use Rattle.layout.specs.Kinds
 use Rattle.layout.specs.Members.{row_of, high16, is_pointer_text, slot_size}
 use Rattle.layout.specs.Runs.{Writer, Run, run, slot_block, pointer_element, struct_element, text_element, elements, element_run}
@@ -119,7 +119,7 @@ pub record LaidStays (E : Env) : Type 0 where
   pub elements_behind : (f : ℕ → M (Option Bytes)) (rs : List ℕ) → ((r : ℕ) → OnlyAdds (f r)) → OnlyAdds (elements f rs)
   pub pairs_behind : (f : ℕ × ℕ → M (Option Bytes)) (ps : List (ℕ × ℕ)) → ((p : ℕ × ℕ) → OnlyAdds (f p)) → OnlyAdds (elements f ps)
   -- an item is laid
-  pub item : (n : ℕ) (bs : Bytes) → OnlyAdds (add_item n bs)
+  pub item : (alone : Bool) (n : ℕ) (bs : Bytes) → OnlyAdds (lay_item alone n bs)
   -- a structure whole, and the root with all that it leads to
   pub whole : (fuel left : ℕ) (d : StructDef) (fs : Fields) → OnlyAdds (write E fuel left d fs)
-  pub root : (d : StructDef) (fs : Fields) → OnlyAdds (root E d fs)
+  pub root : (alone : Bool) (d : StructDef) (fs : Fields) → OnlyAdds (root E alone d fs)

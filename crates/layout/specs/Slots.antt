@@ -1,7 +1,7 @@
 -- Slots: where the layout puts a pointer. "Its pointer is the number formed when it is laid", and that number is what the four bytes of a slot say.
 -- A step that lays an item and puts its pointer into bytes puts the pointer of just that item: a text's, a run's, a map's, a structure's; and no other pointer
 -- is put there. These laws speak of the slot's four bytes; what structures and runs are put together from stands in Parts.
-use Rattle.std.specs.Prelude.{ℕ, suc, ◌+◌, ◌≡◌, true, false, ◌||◌, List, [], ◌∷◌, ◌++◌, map, ◌⊎◌, eqb, leb, Option, Some, None, unwrap_or}
+use Rattle.std.specs.Prelude.{ℕ, suc, ◌+◌, ◌≡◌, Bool, true, false, ◌||◌, List, [], ◌∷◌, ◌++◌, map, ◌⊎◌, eqb, leb, Option, Some, None, unwrap_or}
 use Rattle.numbers.specs.Words.{Bytes, read_at, words, over, is_empty, zeros}
 use Rattle.numbers.specs.Result.{nth}
 use Rattle.value.specs.Rows.{Value, Fields, row, fields_of, field_named, children_of, Struct, Map, Null}
@@ -157,5 +157,5 @@ pub record Slots (E : Env) : Type 0 where
   pub empty_texts : EmptyTexts E
   pub struct_elements : StructElements E
   pub empty_elements : EmptyElements E
-  pub root : (d : StructDef) (fs : Fields) (s : State) (bs : Bytes) (t : State) → write E 96 32 d fs s ≡ done bs t
-      → PointsRoot d.name bs t.core (root E d fs s)
+  pub root : (alone : Bool) (d : StructDef) (fs : Fields) (s : State) (bs : Bytes) (t : State) → write E 96 32 d fs s ≡ done bs t
+      → PointsRoot d.name bs t.core (root E alone d fs s)

@@ -7,7 +7,7 @@ use Rattle.numbers.specs.Result.{nth}
 use Rattle.value.specs.Rows.{Value, Row, Fields, fields_of, field_named, children_of, text_of, Null, Str, Array, Map, Struct}
 use Rattle.texts.specs.Text.{trimmed}
 use Rattle.schema.specs.Defs.{StructDef, Member}
-use Rattle.layout.specs.State.{Env, M, bind, ret, fail, if_m, opt_m, pay, use_struct, add_item}
+use Rattle.layout.specs.State.{Env, M, bind, ret, fail, if_m, opt_m, pay, use_struct, lay_item, add_item}
 use Rattle.layout.specs.Kinds
 use Rattle.layout.specs.Members.{row_of, reference_at, low16, low12, high16, put_pointer, put_counted, leaves, need, wrong, scalar_member, text_member, enum_member, flags_member}
 use Rattle.layout.specs.Runs.{Writer, Run, run, pointed, element_run}
@@ -162,9 +162,10 @@ module _ (E : Env) where
   write zero left d fs = fail 8
   write (suc fuel) left d fs = body (write fuel) left d fs
 
-  -- "The root is laid last"; "the root has depth 1". 96 are "the sheet's 64 levels" and the 32 depths
-  unfoldable pub root : StructDef → Fields → M ℕ
-  root d fs = bind (write 96 32 d fs) λ bs. add_item d.name bs
+  -- "The root is laid last"; "the root has depth 1". 96 are "the sheet's 64 levels" and the 32 depths. "A second way of packing in which the
+  -- root always gets a new last block"; `alone` says which
+  unfoldable pub root : Bool → StructDef → Fields → M ℕ
+  root alone d fs = bind (write 96 32 d fs) λ bs. lay_item alone d.name bs
 
 -- for evaluation
 unfoldable pub evaluated : ℕ → ℕ

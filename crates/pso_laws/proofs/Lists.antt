@@ -12,8 +12,7 @@ use Rattle.numbers.specs.Words.{Bytes}
 use Rattle.numbers.specs.Result.{nth, Every}
 use Rattle.schema.specs.Defs.{first_named}
 use Rattle.pso.specs.Reader as R
-use Rattle.layout.specs.State.{Block}
-use Rattle.layout.specs.Demand3.{places_from, tally, count}
+use Rattle.layout.specs.Demand3.{tally, count}
 
 -- a part of a front is a part of the whole
 pub part : (n p : ℕ) (A B : Bytes) → length (take n (drop p A)) ≡ n → take n (drop p (A ++ B)) ≡ take n (drop p A)
@@ -29,11 +28,6 @@ unfolding nth
 nth_past [] k h = refl
 nth_past (b ∷ l) zero h = absurd (omega (arith, h))
 nth_past (b ∷ l) (suc k) h = nth_past l k (omega (arith, h))
-
-pub places_length : (at : ℕ) (bs : List Block) → length (places_from at bs) ≡ length bs
-unfolding places_from
-places_length at [] = refl
-places_length at (b ∷ bs) = ap suc (places_length (at + b.len) bs)
 
 -- of every element
 pub every_map : {A : Type 0} (P Q : A → Type 0) → ((a : A) → P a → Q a) → (l : List A) → Every P l → Every Q l

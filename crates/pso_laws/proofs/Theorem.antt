@@ -1,5 +1,5 @@
 -- Every pack that is built, as the library's functions answer of it: `every_built_pack`. Assumes nothing.
-use Rattle.std.specs.Prelude.{Option, Some, None}
+use Rattle.std.specs.Prelude.{Bool, Option, Some, None}
 use Prim.Native.Nat.{zero, ℕ, suc, ◌+◌, ◌<◌}
 use native.Mathlib.Omega.{arith}
 use mathlib.Core.Path.{◌≡◌, refl, sym, ap, ◌∙◌, subst}
@@ -15,13 +15,14 @@ use Rattle.layout.specs.State.{Item, Block}
 use Rattle.layout.specs.Assemble.{items_in}
 use Rattle.layout.specs.Build.{Built, success, build, afterwards, build_pso}
 use Rattle.layout.specs.Demand3 as D
+use Rattle.layout.proofs.Places.{places_length}
 use Rattle.layout.proofs.EveryPack.{every_pack}
 use Rattle.layout.proofs.Refusals.{Among, build_among}
 use Rattle.sandvurek.specs.Exports.{outcome_is, outcome_of, reading_is, reading_of, block_is, block_of}
 use Rattle.sandvurek.specs.declared.Block as E
 use Rattle.sandvurek.specs.declared.Reading.{Reading}
 use Rattle.pso_laws.specs.Packs.{file_in, BlocksFollow, StandsIn, RootEnds, GivesAgain, Pack, EveryBuiltPack}
-use Rattle.pso_laws.proofs.Lists.{part, nth_past, places_length, every_map}
+use Rattle.pso_laws.proofs.Lists.{part, nth_past, every_map}
 use Rattle.pso_laws.proofs.Looked.{struct_by, enum_by}
 
 -- a file that the reader accepts
@@ -83,8 +84,8 @@ follow F k at end (b ∷ bs) h t =
     )
 
 -- demand 3 in these words
-module _ (T S : Bytes) (work out records : ℕ) (F : Bytes) (d : D.Demand3 T S work out records F) where
-  root_ends_law : RootEnds T F d.laid
+module _ (alone : Bool) (T S : Bytes) (work out records : ℕ) (F : Bytes) (d : D.Demand3 alone T S work out records F) where
+  root_ends_law : RootEnds alone T F d.laid
   root_ends_law =
       let x = d.root_last in
       let e = reading F d.read d.accepts in
@@ -99,19 +100,27 @@ module _ (T S : Bytes) (work out records : ℕ) (F : Bytes) (d : D.Demand3 T S w
         found = ap (λ (c : E.Block). c.found) b;
         named = ap (λ (c : E.Block). c.name) b ∙ x.named;
         ends = x.ends ∙ sym (ap (λ (c : E.Block). c.length) b);
+        apart = λ h.
+            let y = x.apart h in
+            record {
+              pointer = y.number ∙ sym n;
+              last = n ∙ y.last ∙ sym (ap (λ (q : Reading). q.blocks) e);
+              only = ap (λ (k : ℕ). items_in k d.laid.state.core.items) n ∙ y.only;
+              all = y.all ∙ sym (ap (λ (c : E.Block). c.length) b);
+            };
       }
 
-  gives_again_law : GivesAgain T F work out
+  gives_again_law : GivesAgain alone T F work out
   gives_again_law =
       let x = d.rebuilds in
       record {
         distinct = x.distinct;
         answers = λ buffer records l h. ap outcome_is (x.answers buffer records l h);
-        same = λ buffer records l h. ap (λ a. take (outcome_is a).length (build_pso T F work buffer records).output) (x.answers buffer records l h) ∙ x.same buffer records l h;
+        same = λ buffer records l h. ap (λ a. take (outcome_is a).length (build_pso alone T F work buffer records).output) (x.answers buffer records l h) ∙ x.same buffer records l h;
         fewer = λ buffer records l h. ap outcome_is (x.fewer buffer records l h);
       }
 
-  in_words : Pack T S work out records F
+  in_words : Pack alone T S work out records F
   unfolding D.read_back
   in_words =
       let a = d.accepts in
@@ -165,7 +174,7 @@ succeeds work out records (refused n) h e = absurd (omega (arith, h.0, e))
 -- the theorem
 pub every_built_pack : EveryBuiltPack
 unfolding build_pso
-every_built_pack T S work out records o e =
-    let (m, q) = succeeds work out records (build T S work (length out) records) (build_among T S work (length out) records) e in
-    let (n, d) = every_pack T S work out records (outcome_of (build_pso T S work out records)).length m o q in
-    (n, in_words T S work (length out) records (file_in (build_pso T S work out records)) d)
+every_built_pack alone T S work out records o e =
+    let (m, q) = succeeds work out records (build alone T S work (length out) records) (build_among alone T S work (length out) records) e in
+    let (n, d) = every_pack alone T S work out records (outcome_of (build_pso alone T S work out records)).length m o q in
+    (n, in_words alone T S work (length out) records (file_in (build_pso alone T S work out records)) d)

@@ -32,8 +32,17 @@ pub record StandsIn (F : Bytes) (i : Item) : Type 0 where
   pub found : (block_of F (pointer_block i.pointer)).found ≡ 1
   pub bytes : take (length i.bytes) (drop ((block_of F (pointer_block i.pointer)).place + pointer_start i.pointer) F) ≡ i.bytes
 
--- the root is the last item laid; its pointer is the layout's; its block is the one that F names as root, has the name of the root's type, and ends with the root
-pub record RootEnds (T F : Bytes) (l : Laid) : Type 0 where
+-- the root has a block for itself: its pointer, whose start is 0, is the number of its block, which is the number of blocks; no other item is filed there,
+-- and its bytes are all of the block
+pub record RootApart (F : Bytes) (l : Laid) (root : Item) : Type 0 where
+  pub pointer : l.pointer ≡ (reading_of F).root
+  pub last : (reading_of F).root ≡ (reading_of F).blocks
+  pub only : items_in (reading_of F).root l.state.core.items ≡ root ∷ []
+  pub all : length root.bytes ≡ (block_of F (reading_of F).root).length
+
+-- the root is the last item laid; its pointer is the layout's; its block is the one that F names as root, has the name of the root's type, and ends with the
+-- root. With the root alone it has that block for itself
+pub record RootEnds (alone : Bool) (T F : Bytes) (l : Laid) : Type 0 where
   pub earlier : List Item
   pub root : Item
   pub last : l.state.core.items ≡ earlier ++ (root ∷ [])
@@ -42,6 +51,7 @@ pub record RootEnds (T F : Bytes) (l : Laid) : Type 0 where
   pub found : (block_of F (reading_of F).root).found ≡ 1
   pub named : (block_of F (reading_of F).root).name ≡ (row T 0).a
   pub ends : pointer_start root.pointer + length root.bytes ≡ (block_of F (reading_of F).root).length
+  pub apart : alone ≡ true → RootApart F l root
 
 -- a used name leads to "S's winning one", another to none
 abbrev pub StructBy : Lookup → Bytes → ℕ → Bool → Type 0
@@ -53,27 +63,27 @@ abbrev pub EnumBy : Lookup → Bytes → ℕ → Bool → Type 0
 EnumBy L F name true = (d : EnumDef) × (L.enum name ≡ Some d) × IsEnum F (enum_of F name) d
 EnumBy L F name false = (enum_of F name).found ≡ 0
 
--- the call with F as schema file, with work and output as long as before: with as many records as it has distinct remarks it gives F, byte for byte; with fewer it is 14
-pub record GivesAgain (T F : Bytes) (work out : ℕ) : Type 0 where
+-- the call with F as schema file, the same way, with work and output as long as before: with as many records as it has distinct remarks it gives F, byte for byte; with fewer it is 14
+pub record GivesAgain (alone : Bool) (T F : Bytes) (work out : ℕ) : Type 0 where
   pub distinct : ℕ
   pub answers : (buffer : Bytes) (records : ℕ) → length buffer ≡ out → distinct ≤ records
-      → outcome_of (build_pso T F work buffer records) ≡ record { code = 0; length = length F; remarks = distinct }
-  pub same : (buffer : Bytes) (records : ℕ) → length buffer ≡ out → distinct ≤ records → file_in (build_pso T F work buffer records) ≡ F
+      → outcome_of (build_pso alone T F work buffer records) ≡ record { code = 0; length = length F; remarks = distinct }
+  pub same : (buffer : Bytes) (records : ℕ) → length buffer ≡ out → distinct ≤ records → file_in (build_pso alone T F work buffer records) ≡ F
   pub fewer : (buffer : Bytes) (records : ℕ) → length buffer ≡ out → records < distinct
-      → outcome_of (build_pso T F work buffer records) ≡ record { code = 14; length = 0; remarks = 0 }
+      → outcome_of (build_pso alone T F work buffer records) ≡ record { code = 14; length = 0; remarks = 0 }
 
--- what holds of a pack F that was built from the sheet T and the schema file S
-pub record Pack (T S : Bytes) (work out records : ℕ) (F : Bytes) : Type 0 where
+-- what holds of a pack F that was built from the sheet T and the schema file S, with the root alone or not
+pub record Pack (alone : Bool) (T S : Bytes) (work out records : ℕ) (F : Bytes) : Type 0 where
   -- "the layout applied to T and S gives items, pointers and uses"
   pub laid : Laid
-  pub layout_gives : layout T S work records ≡ ok laid
+  pub layout_gives : layout alone T S work records ≡ ok laid
   -- S's definitions
   pub schema : Schema
   pub schema_gives : schema_of S ≡ ok schema
   -- the layout is this run: the root's definition is written with the root's values, from nothing
   pub root_def : StructDef
   pub root_found : (winning schema).struct (row T 0).a ≡ Some root_def
-  pub ran : root (env_of T schema work) root_def (fields_of T (row T 0)) empty_state ≡ done laid.pointer laid.state
+  pub ran : root (env_of T schema work) alone root_def (fields_of T (row T 0)) empty_state ≡ done laid.pointer laid.state
   -- the reader accepts F
   pub accepts : (reading_of F).code ≡ 0
   pub read : Pso
@@ -102,19 +112,19 @@ pub record Pack (T S : Bytes) (work out records : ℕ) (F : Bytes) : Type 0 wher
   -- no step takes an item away or renames a block
   pub laid_stays : LaidStays (env_of T schema work)
   -- "The root is laid last; it need not start its block."
-  pub root_ends : RootEnds T F laid
+  pub root_ends : RootEnds alone T F laid
   -- "PSCH has each used definition once"
   pub once : CarriesUsed (winning schema) laid.state.uses read.schema
   -- "with the members or entries of S's winning one; a structure and an enum of one name are two": by name, a structure if one was started
   pub structs : (name : ℕ) → StructBy (winning schema) F name (contains name laid.state.uses.started)
   -- .. and an enum if one was used
   pub enums : (name : ℕ) → EnumBy (winning schema) F name (contains name laid.state.uses.enums)
-  -- building T with F as schema file gives F
-  pub gives_again : GivesAgain T F work out
+  -- building T the same way with F as schema file gives F
+  pub gives_again : GivesAgain alone T F work out
 
--- a building that answers code 0 leaves such a pack at the front of its output, for all sheets, schema files and lengths. S is a list of bytes, as every slice is
+-- a building, in either way, that answers code 0 leaves such a pack at the front of its output, for all sheets, schema files and lengths. S is a list of bytes, as every slice is
 abbrev pub EveryBuiltPack : Type 0
 EveryBuiltPack =
-    (T S : Bytes) (work : ℕ) (out : Bytes) (records : ℕ) → Octets S → (outcome_of (build_pso T S work out records)).code ≡ 0
-    → (length (file_in (build_pso T S work out records)) ≡ (outcome_of (build_pso T S work out records)).length)
-    × Pack T S work (length out) records (file_in (build_pso T S work out records))
+    (alone : Bool) (T S : Bytes) (work : ℕ) (out : Bytes) (records : ℕ) → Octets S → (outcome_of (build_pso alone T S work out records)).code ≡ 0
+    → (length (file_in (build_pso alone T S work out records)) ≡ (outcome_of (build_pso alone T S work out records)).length)
+    × Pack alone T S work (length out) records (file_in (build_pso alone T S work out records))

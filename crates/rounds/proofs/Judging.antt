@@ -78,85 +78,85 @@ ended_well : (S : Schema) (R : Round) (n : ℕ) (o : Out ℕ) (value : ℕ) (p :
 ended_well S R n (done a s) value p w m = record { state = s; rep = m.0; is = ap (λ (x : ℕ). done x s) m.1 }
 ended_well S R n (stop k es) value p w m = absurd m
 
-module _ (F : Bytes) (size : ℕ) (st : Stage) (w : Bytes) where
+module _ (alone : Bool) (F : Bytes) (size : ℕ) (st : Stage) (w : Bytes) where
   -- what the round gave
-  given : (T : Bytes) (room : ℕ) (h : Standing T F size room st.job w) (r : Rust.Result ℕ Refusal) → st.job.outcome ≡ r
-      → Meets h.rooted.schema st.job.opening.round (length w) (λ _. []) (λ a x. a ≡ x) (run_of T h.rooted.schema h.rooted.def st.job.opening.round) (answered r st.job.progress) w
+  given : (T : Bytes) (room : ℕ) (h : Standing alone T F size room st.job w) (r : Rust.Result ℕ Refusal) → st.job.outcome ≡ r
+      → Meets h.rooted.schema st.job.opening.round (length w) (λ _. []) (λ a x. a ≡ x) (run_of alone T h.rooted.schema h.rooted.def st.job.opening.round) (answered r st.job.progress) w
   given T room h r g = rw (← g) h.meets
 
-  refused_goes : (T : Bytes) (room : ℕ) → Standing T F size room st.job w → (zs : List Remark) (k : Refusal) → build T F (length w) size room ≡ refused (number_of k)
-      → Goes T F size room (refusal_of st.job k) zs w 0
-  refused_goes T room h zs k e = (closes T F size room st.job k zs w e (remains h), omega (arith, turns_last room (refusal_of st.job k) refl))
+  refused_goes : (T : Bytes) (room : ℕ) → Standing alone T F size room st.job w → (zs : List Remark) (k : Refusal) → build alone T F (length w) size room ≡ refused (number_of k)
+      → Goes alone T F size room (refusal_of st.job k) zs w 0
+  refused_goes T room h zs k e = (closes alone T F size room st.job k zs w e (remains h), omega (arith, turns_last room (refusal_of st.job k) refl))
 
   few : (room : ℕ) (zs es : List Remark) → length zs ≡ room → st.count ≤ room → take st.count zs ≡ thin es → length (thin es) ≡ st.count
   few room zs es len h t = ap length (sym t) ∙ length-take-le st.count zs (omega (arith, h, len))
 
-  pub judge_bad : (k : Refusal) → st.job.outcome ≡ Err k → Judges F size st w (refusal_of st.job k)
+  pub judge_bad : (k : Refusal) → st.job.outcome ≡ Err k → Judges alone F size st w (refusal_of st.job k)
   judge_bad k g T room h zs len n t =
       refused_goes T room h zs k
       (h.builds
-      ∙ ended_badly h.rooted.schema st.job.opening.round (length w) size room (winning h.rooted.schema) (run_of T h.rooted.schema h.rooted.def st.job.opening.round)
+      ∙ ended_badly h.rooted.schema st.job.opening.round (length w) size room (winning h.rooted.schema) (run_of alone T h.rooted.schema h.rooted.def st.job.opening.round)
       (number_of k) st.job.progress w (given T room h (Err k) g) (omega (arith, few room zs (met_in h) len n t, n)))
 
   module _ (len pointer : ℕ) (good : st.job.outcome ≡ Ok pointer)
       (measured : (S : Schema) (s : State) (σ : Bytes) (pointer : ℕ) → Holds F st.job.opening.round st.job.progress w S s σ → Counts len (length (file_of (winning S) pointer s.core))) where
-    abbrev Ended : (T : Bytes) (room : ℕ) → Standing T F size room st.job w → Type 0
-    Ended T room h = Well h.rooted.schema st.job.opening.round (length w) (run_of T h.rooted.schema h.rooted.def st.job.opening.round) pointer st.job.progress w
+    abbrev Ended : (T : Bytes) (room : ℕ) → Standing alone T F size room st.job w → Type 0
+    Ended T room h = Well h.rooted.schema st.job.opening.round (length w) (run_of alone T h.rooted.schema h.rooted.def st.job.opening.round) pointer st.job.progress w
 
-    well : (T : Bytes) (room : ℕ) (h : Standing T F size room st.job w) → Ended T room h
+    well : (T : Bytes) (room : ℕ) (h : Standing alone T F size room st.job w) → Ended T room h
     well T room h =
-        ended_well h.rooted.schema st.job.opening.round (length w) (run_of T h.rooted.schema h.rooted.def st.job.opening.round) pointer st.job.progress w (given T room h (Ok pointer) good)
+        ended_well h.rooted.schema st.job.opening.round (length w) (run_of alone T h.rooted.schema h.rooted.def st.job.opening.round) pointer st.job.progress w (given T room h (Ok pointer) good)
 
-    met_is : (T : Bytes) (room : ℕ) (h : Standing T F size room st.job w) (e : Ended T room h) → met_in h ≡ e.state.events
+    met_is : (T : Bytes) (room : ℕ) (h : Standing alone T F size room st.job w) (e : Ended T room h) → met_in h ≡ e.state.events
     met_is T room h e = ap events_of e.is
 
-    built : (T : Bytes) (room : ℕ) (h : Standing T F size room st.job w) (e : Ended T room h) → length (thin (met_in h)) ≤ room
-        → build T F (length w) size room ≡ Build.fitted size (packed (record { state = e.state; pointer = pointer; defs = winning h.rooted.schema }))
+    built : (T : Bytes) (room : ℕ) (h : Standing alone T F size room st.job w) (e : Ended T room h) → length (thin (met_in h)) ≤ room
+        → build alone T F (length w) size room ≡ Build.fitted size (packed (record { state = e.state; pointer = pointer; defs = winning h.rooted.schema }))
     built T room h e l =
         h.builds ∙ ap (made (winning h.rooted.schema) size room) e.is
         ∙ made_done (winning h.rooted.schema) size room pointer e.state (subst (λ (es : List Remark). length (thin es) ≤ room) (met_is T room h e) l)
 
-    tiles : (T : Bytes) (room : ℕ) (h : Standing T F size room st.job w) (e : Ended T room h) → Tiled e.state.core
+    tiles : (T : Bytes) (room : ℕ) (h : Standing alone T F size room st.job w) (e : Ended T room h) → Tiled e.state.core
     tiles T room h e =
-        root_tiled (env_of T h.rooted.schema st.job.opening.round) st.job.opening.name h.rooted.def (fields_of T (row T 0)) pointer e.state h.rooted.wins e.is
+        root_tiled alone (env_of T h.rooted.schema st.job.opening.round) st.job.opening.name h.rooted.def (fields_of T (row T 0)) pointer e.state h.rooted.wins e.is
 
-    counted : (T : Bytes) (room : ℕ) (h : Standing T F size room st.job w) (e : Ended T room h)
+    counted : (T : Bytes) (room : ℕ) (h : Standing alone T F size room st.job w) (e : Ended T room h)
         → Counts len (length (file_of (winning h.rooted.schema) pointer e.state.core))
     counted T room h e = measured h.rooted.schema e.state [] pointer (record { schema = h.rooted.whole; rep = e.rep; tiled = tiles T room h e })
 
     -- 13
-    refuses_long : (T : Bytes) (room : ℕ) (h : Standing T F size room st.job w) (e : Ended T room h) (zs : List Remark) (n : ℕ)
+    refuses_long : (T : Bytes) (room : ℕ) (h : Standing alone T F size room st.job w) (e : Ended T room h) (zs : List Remark) (n : ℕ)
         → n ≡ length (file_of (winning h.rooted.schema) pointer e.state.core) → ltb size n || ltb 16777216 n ≡ true
-        → length (thin (met_in h)) ≤ room → Goes T F size room (refusal_of st.job OutputLength) zs w 0
+        → length (thin (met_in h)) ≤ room → Goes alone T F size room (refusal_of st.job OutputLength) zs w 0
     refuses_long T room h e zs n m f l =
         refused_goes T room h zs OutputLength (built T room h e l ∙ fitted_long (winning h.rooted.schema) size pointer e.state n m f)
 
-    pub judge_huge : 16777216 < len → Judges F size st w (refusal_of st.job OutputLength)
+    pub judge_huge : 16777216 < len → Judges alone F size st w (refusal_of st.job OutputLength)
     judge_huge f T room h zs lz n t =
         let e : Ended T room h = well T room h in
         let x : ℕ = length (file_of (winning h.rooted.schema) pointer e.state.core) in
         refuses_long T room h e zs x refl (rw (lt-ltb 16777216 x ((counted T room h e).long f)) (or-true (ltb size x))) (omega (arith, few room zs (met_in h) lz n t, n))
 
-    pub judge_long : len ≤ 16777216 → size < len → Judges F size st w (refusal_of st.job OutputLength)
+    pub judge_long : len ≤ 16777216 → size < len → Judges alone F size st w (refusal_of st.job OutputLength)
     judge_long g f T room h zs lz n t =
         let e : Ended T room h = well T room h in
         refuses_long T room h e zs len ((counted T room h e).exact g) (rw (lt-ltb size len f) refl) (omega (arith, few room zs (met_in h) lz n t, n))
 
-    pub judge_fits : len ≤ 16777216 → len ≤ size → Judges F size st w (ended_at st len)
+    pub judge_fits : len ≤ 16777216 → len ≤ size → Judges alone F size st w (ended_at st len)
     unfolding packed
     judge_fits g f T room h zs lz n t =
         let e : Ended T room h = well T room h in
         let k : length (thin (met_in h)) ≡ st.count = few room zs (met_in h) lz n t in
         let m : len ≡ length (file_of (winning h.rooted.schema) pointer e.state.core) = (counted T room h e).exact g in
-        let b : build T F (length w) size room ≡ ok (packed (record { state = e.state; pointer = pointer; defs = winning h.rooted.schema })) =
+        let b : build alone T F (length w) size room ≡ ok (packed (record { state = e.state; pointer = pointer; defs = winning h.rooted.schema })) =
         built T room h e (omega (arith, k, n)) ∙ fitted_fits (winning h.rooted.schema) size pointer e.state len m f g in
-        let r : remarks_in (build T F (length w) size room) ≡ thin (met_in h) = ap remarks_in b ∙ ap thin (sym (met_is T room h e)) in (
+        let r : remarks_in (build alone T F (length w) size room) ≡ thin (met_in h) = ap remarks_in b ∙ ap thin (sym (met_is T room h e)) in (
           (
             λ q. absurd (true≢false q),
             λ _. record {
               closing = record {
                 counts = sym k ∙ ap length (sym r);
-                answer = subst (λ (r : Rust.Result ℕ Refusal). Known T F size room st.job len w r) (sym good)
+                answer = subst (λ (r : Rust.Result ℕ Refusal). Known alone T F size room st.job len w r) (sym good)
                     (record {
                       schema = h.rooted.schema;
                       state = e.state;

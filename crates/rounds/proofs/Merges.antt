@@ -64,9 +64,9 @@ not_there zs r n h f =
     absent (take n zs) r
     (λ k l. let g : k < n = subst (λ (m : ℕ). k < m) (length-take-le n zs h) l in ap (λ (x : Remark). same_remark x r) (get_or-take n zs k zero_remark g) ∙ f k g)
 
-module _ (T F : Bytes) (size room : ℕ) where
+module _ (alone : Bool) (T F : Bytes) (size room : ℕ) where
   -- a refusal
-  pub closes : (j : Job) (k : Refusal) (zs : List Remark) (w : Bytes) → build T F (length w) size room ≡ refused (number_of k) → Remains j.opening.round j.progress w → Inv T F size room (refusal_of j k) zs w
+  pub closes : (j : Job) (k : Refusal) (zs : List Remark) (w : Bytes) → build alone T F (length w) size room ≡ refused (number_of k) → Remains j.opening.round j.progress w → Inv alone T F size room (refusal_of j k) zs w
   closes j k zs w e m = (
     λ q. absurd (true≢false q),
     λ _. record {
@@ -78,7 +78,7 @@ module _ (T F : Bytes) (size room : ℕ) where
   -- a row that is looked for, from record k on
   pub record Seeks (w : Bytes) (st : Stage) (zs : List Remark) (k : ℕ) : Type 0 where
     pub len : length zs ≡ room
-    pub fit : Fit T F w size room st
+    pub fit : Fit alone T F w size room st
     pub upto : k ≤ st.base
     pub left : Left (met_in fit.stands) w st st.row zs
     pub own : Own w st st.row zs
@@ -94,7 +94,7 @@ module _ (T F : Bytes) (size room : ℕ) where
         go false q = h.own i st.row (ltb-false i st.base q) l (omega arith) h.fit.some
 
     merging : (a : ℕ) → a < room → (st.base ≤ a → a ≡ st.count) → ((i : ℕ) → i < a → same_remark (get_or zs i zero_remark) (row_of w st.row) ≡ false) → k ≤ a
-        → Goes T F size room (moved_to st a) zs w (bound room (st.job.progress.rows - st.row) (st.job.progress.seen - st.job.progress.next) k)
+        → Goes alone T F size room (moved_to st a) zs w (bound room (st.job.progress.rows - st.row) (st.job.progress.seen - st.job.progress.next) k)
     merging a l s f g = (
       (
         λ _. record {
@@ -110,7 +110,7 @@ module _ (T F : Bytes) (size room : ℕ) where
       omega (arith, turns_seeking room (moved_to st a) h.fit.going, g),
     )
 
-    overfull : st.base ≤ k → st.count ≡ room → build T F (length w) size room ≡ refused 14
+    overfull : st.base ≤ k → st.count ≡ room → build alone T F (length w) size room ≡ refused 14
     overfull b n =
         let es : List Remark = met_in h.fit.stands in
         let acc : List Remark = take st.count zs in
@@ -124,7 +124,7 @@ module _ (T F : Bytes) (size room : ℕ) where
         refuses_full h.fit.stands (omega (arith, g, d, n))
 
     sought_case : (b c : Bool) → ltb k st.base ≡ b → eqb st.count room ≡ c
-        → Goes T F size room (sought_at room st k) zs w (bound room (st.job.progress.rows - st.row) (st.job.progress.seen - st.job.progress.next) k)
+        → Goes alone T F size room (sought_at room st k) zs w (bound room (st.job.progress.rows - st.row) (st.job.progress.seen - st.job.progress.next) k)
     unfolding sought_at
     sought_case true c p q =
         let l : k < st.base = ltb-true k st.base p in
@@ -137,5 +137,5 @@ module _ (T F : Bytes) (size room : ℕ) where
         rw (p, q)
         (merging st.count (omega (arith, eqb-false st.count room q, h.fit.count)) (λ _. refl) (all_apart b) (omega (arith, h.upto, h.fit.base)))
 
-    pub sought : Goes T F size room (sought_at room st k) zs w (bound room (st.job.progress.rows - st.row) (st.job.progress.seen - st.job.progress.next) k)
+    pub sought : Goes alone T F size room (sought_at room st k) zs w (bound room (st.job.progress.rows - st.row) (st.job.progress.seen - st.job.progress.next) k)
     sought = sought_case (ltb k st.base) (eqb st.count room) refl refl

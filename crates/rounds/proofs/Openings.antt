@@ -88,10 +88,10 @@ unfolding cap_of
 roomy n i h = (omega arith, omega (arith, h))
 
 -- what it says of building
-module _ (T F : Bytes) (n : ℕ) where
+module _ (alone : Bool) (T F : Bytes) (n : ℕ) where
   -- 12, or the layout
   rooms : (S : Schema) (d : StructDef) (place : ℕ) → sheet_ok T ≡ ok tt → schema_of F ≡ ok S → (winning S).struct (row T 0).a ≡ Some d → last_place F 0 (row T 0).a ≡ Some place
-      → (b : Bool) → ltb n (work_need (index_entries S)) ≡ b → Opens T F n (roomed_at n (index_entries S) place (row T 0).a)
+      → (b : Bool) → ltb n (work_need (index_entries S)) ≡ b → Opens alone T F n (roomed_at n (index_entries S) place (row T 0).a)
   unfolding build layout layout_of layout_with and_then needed
   rooms S d place sheet whole wins found true e = rw e (λ size room. rw (sheet, whole, wins, e) refl)
   rooms S d place sheet whole wins found false e =
@@ -101,7 +101,7 @@ module _ (T F : Bytes) (n : ℕ) where
       )
 
   -- 7
-  roots : (S : Schema) → sheet_ok T ≡ ok tt → schema_of F ≡ ok S → (o : Option ℕ) → last_place F 0 (row T 0).a ≡ o → Opens T F n (rooted_at T F n (index_entries S))
+  roots : (S : Schema) → sheet_ok T ≡ ok tt → schema_of F ≡ ok S → (o : Option ℕ) → last_place F 0 (row T 0).a ≡ o → Opens alone T F n (rooted_at T F n (index_entries S))
   unfolding rooted_at build layout layout_of and_then needed
   roots S sheet whole None e =
       let f : (winning S).struct (row T 0).a ≡ None = winning_struct F (row T 0).a None S whole (sym e) in rw e (λ size room. rw (sheet, whole, f) refl)
@@ -109,15 +109,15 @@ module _ (T F : Bytes) (n : ℕ) where
       let f : (winning S).struct (row T 0).a ≡ Some (struct_here F (row T 0).a place) = winning_struct F (row T 0).a (Some place) S whole (sym e) in
       rw e (rooms S (struct_here F (row T 0).a place) place sheet whole f e (ltb n (work_need (index_entries S))) refl)
 
-  schemas : sheet_ok T ≡ ok tt → (r : Result Schema) → schema_of F ≡ r → Opens T F n (schemed_at T F n)
+  schemas : sheet_ok T ≡ ok tt → (r : Result Schema) → schema_of F ≡ r → Opens alone T F n (schemed_at T F n)
   unfolding schemed_at build layout and_then
   schemas sheet (ok S) e = rw e (roots S sheet e (last_place F 0 (row T 0).a) refl)
   schemas sheet (refused k) e = rw e (λ size room. rw (sheet, e) refl)
 
-  sheets : (r : Result (Unit {0})) → sheet_ok T ≡ r → Opens T F n (opening_of T F n)
+  sheets : (r : Result (Unit {0})) → sheet_ok T ≡ r → Opens alone T F n (opening_of T F n)
   unfolding opening_of build layout and_then
   sheets (ok tt) e = rw e (schemas e (schema_of F) refl)
   sheets (refused k) e = rw e (λ size room. rw e refl)
 
-  pub opens : (r : Result Opening) → r ≡ opening_of T F n → record { value : r ≡ opening_of T F n; opens : Opens T F n r }
-  opens r e = record { value = e; opens = subst (Opens T F n) (sym e) (sheets (sheet_ok T) refl) }
+  pub opens : (r : Result Opening) → r ≡ opening_of T F n → record { value : r ≡ opening_of T F n; opens : Opens alone T F n r }
+  opens r e = record { value = e; opens = subst (Opens alone T F n) (sym e) (sheets (sheet_ok T) refl) }

@@ -1,5 +1,5 @@
 -- A run of the layout: the empty work area, the root's structure, its item. Assumes nothing.
-use Rattle.std.specs.Prelude.{Some}
+use Rattle.std.specs.Prelude.{Some, Bool}
 use mathlib.Core.Path.{◌≡◌, refl, sym, ap, ◌∙◌}
 use mathlib.Core.List.{List, [], ◌∷◌, ◌++◌}
 use Prim.Native.Nat.{ℕ, ◌+◌, ◌-◌, ◌*◌}
@@ -12,7 +12,7 @@ use Rattle.schema.specs.Defs.{Schema, StructDef, Lookup, winning, index_entries}
 use Rattle.schema.specs.Psch.{schema_of, struct_here}
 use Rattle.schema.specs.Index.{last_place}
 use Rattle.definitions.proofs.Finds.{winning_struct}
-use Rattle.layout.specs.State.{Out, done, stop, after, bind, empty_state, contains, add_item}
+use Rattle.layout.specs.State.{Out, done, stop, after, bind, empty_state, contains, lay_item}
 use Rattle.layout.specs.Demand3.{count}
 use Rattle.layout.specs.Always.{Known}
 use Rattle.layout.specs.Write.{write, root}
@@ -20,7 +20,7 @@ use Rattle.area.specs.declared.Round.{Round}
 use Rattle.area.specs.declared.Progress.{Progress}
 use Rattle.area.specs.Area.{rows_of, encode, stack_at, Rep, env_of}
 use Rattle.area.specs.Kept.{kept, meets, rows_bytes}
-use Rattle.area.specs.Posts.{Ans, gives, refuses, Meets, Lays}
+use Rattle.area.specs.Posts.{Ans, gives, refuses, Meets, LaysItem}
 use Rattle.assemble.proofs.Wiping.{bare_zeros}
 use Rattle.cells.specs.declared.defs.Def.{Def}
 use Rattle.cells.specs.Names.{def_of}
@@ -70,7 +70,7 @@ unfolding def_of struct_here
 root_def_law F S name place e f = winning_struct F name (Some place) S e (sym f)
 
 -- what the root's structure and its item give
-module _ (T F : Bytes) (R : Round) (n : ℕ) (w : Bytes) (d : Def) where
+module _ (alone : Bool) (T F : Bytes) (R : Round) (n : ℕ) (w : Bytes) (d : Def) where
   module _ (room : Roomy R n) (zero : w ≡ zeros n) (wins : (S : Schema) → schema_of F ≡ ok S → (winning S).struct d.name ≡ Some (def_of F d)) where
     -- what is asked of the structure's writer
     known : (S : Schema) → schema_of F ≡ ok S → Named F d S
@@ -81,7 +81,7 @@ module _ (T F : Bytes) (R : Round) (n : ℕ) (w : Bytes) (d : Def) where
 
     -- the structure is refused
     pub root_refused : (k : ℕ) (t : Progress) (v : Bytes) → Pushes (Named F d) R n (beginning_of R) w d.size (λ S. deeper T R 96 S (def_of F d) (fields_of T (row T 0))) (refuses k t) v
-        → Runs T F R n d.name (refuses k t) v
+        → Runs alone T F R n d.name (refuses k t) v
     unfolding root bind after
     root_refused k t v x =
         record {
@@ -91,14 +91,14 @@ module _ (T F : Bytes) (R : Round) (n : ℕ) (w : Bytes) (d : Def) where
         }
       where
         go : (S : Schema) (o : Out Bytes) → Meets S R n (λ b. [] ++ b) (λ b (x : Unit {0}). length b ≡ d.size) o (refuses k t) v
-            → Meets S R n (λ (_ : ℕ). []) (λ (a x : ℕ). a ≡ x) (after o (λ bs. add_item (def_of F d).name bs)) (refuses k t) v
+            → Meets S R n (λ (_ : ℕ). []) (λ (a x : ℕ). a ≡ x) (after o (λ bs. lay_item alone (def_of F d).name bs)) (refuses k t) v
         go S (done b s) m = absurd m
         go S (stop j es) m = m
 
     -- its item is laid, or refused
     pub root_laid : (t : Progress) (v : Bytes) (r : Ans ℕ) (u : Bytes)
         → Pushes (Named F d) R n (beginning_of R) w d.size (λ S. deeper T R 96 S (def_of F d) (fields_of T (row T 0))) (gives (tt {0}) t) v
-        → Lays R n t v d.name d.size r u → Runs T F R n d.name r u
+        → LaysItem alone R n t v d.name d.size r u → Runs alone T F R n d.name r u
     unfolding root bind after def_of
     root_laid t v r u x y =
         record {
@@ -108,6 +108,6 @@ module _ (T F : Bytes) (R : Round) (n : ℕ) (w : Bytes) (d : Def) where
         }
       where
         go : (S : Schema) (o : Out Bytes) → Meets S R n (λ b. [] ++ b) (λ b (x : Unit {0}). length b ≡ d.size) o (gives (tt {0}) t) v
-            → Meets S R n (λ (_ : ℕ). []) (λ (a x : ℕ). a ≡ x) (after o (λ bs. add_item d.name bs)) r u
+            → Meets S R n (λ (_ : ℕ). []) (λ (a x : ℕ). a ≡ x) (after o (λ bs. lay_item alone d.name bs)) r u
         go S (done b s) m = y.says S s [] b m.1 m.0
         go S (stop j es) m = absurd m

@@ -2,7 +2,7 @@
 use mathlib.Core.Path.{◌≡◌, refl, sym, ap, subst, ◌∙◌}
 use Rattle.std.specs.Prelude as Rust
 use Rattle.std.specs.Prelude.{Ok, Err}
-use mathlib.Core.Bool.{true, false, ◌||◌}
+use mathlib.Core.Bool.{true, false, ◌||◌, Bool}
 use mathlib.Core.List.{List, []}
 use Prim.Native.Nat.{ℕ, zero, suc, ◌+◌, ◌*◌, ◌<◌, ◌≤◌}
 use native.Mathlib.Nat.{lt_irrefl, suc-le-suc_iff}
@@ -89,9 +89,9 @@ unfolding over
 in_use {S} {R} {s} {σ} {p} {w} r =
     record { state = s; stack = σ; before = w; table = []; rep = r; few = omega arith; is = sym (take-append-drop table_at w) }
 
-module _ {T F : Bytes} {size room : ℕ} {j : Job} {w : Bytes} (h : Standing T F size room j w) where
+module _ {alone : Bool} {T F : Bytes} {size room : ℕ} {j : Job} {w : Bytes} (h : Standing alone T F size room j w) where
   pub standing : Stopped h.rooted.schema j.opening.round (length w) (met_in h) j.progress w
-  standing = stood h.rooted.schema j.opening.round (length w) (run_of T h.rooted.schema h.rooted.def j.opening.round) j.outcome j.progress w h.meets
+  standing = stood h.rooted.schema j.opening.round (length w) (run_of alone T h.rooted.schema h.rooted.def j.opening.round) j.outcome j.progress w h.meets
 
   -- what a refusal finds in the work area
   pub remains : Remains j.opening.round j.progress w
@@ -142,5 +142,5 @@ module _ {T F : Bytes} {size room : ℕ} {j : Job} {w : Bytes} (h : Standing T F
       ∙ d i k l (omega (arith, g, length_rows_in w 32768 j.progress.rows))
 
   -- 14
-  pub refuses_full : room < length (thin met) → build T F (length w) size room ≡ refused 14
-  refuses_full l = h.builds ∙ made_full (winning h.rooted.schema) size room (run_of T h.rooted.schema h.rooted.def j.opening.round) l
+  pub refuses_full : room < length (thin met) → build alone T F (length w) size room ≡ refused 14
+  refuses_full l = h.builds ∙ made_full (winning h.rooted.schema) size room (run_of alone T h.rooted.schema h.rooted.def j.opening.round) l

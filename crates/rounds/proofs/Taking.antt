@@ -37,7 +37,7 @@ not_full next seen rows z f = go (ltb next seen) refl
     go true e = absurd (lt_irrefl 0 (omega (arith, z, f (ltb-true next seen e))))
     go false e = ltb-false next seen e
 
-module _ (T F : Bytes) (size room : ℕ) where
+module _ (alone : Bool) (T F : Bytes) (size room : ℕ) where
   -- a round has run
   module _ (o : Opening) (count : ℕ) (w : Bytes) (r : Result ℕ Refusal) (p : Progress) where
     abbrev J : Job
@@ -45,18 +45,18 @@ module _ (T F : Bytes) (size room : ℕ) where
 
     module _ (h : Rooted F o.round o.place o.name) where
       abbrev es : List Remark
-      es = events_of (run_of T h.schema h.def o.round)
+      es = events_of (run_of alone T h.schema h.def o.round)
 
       -- its rows, and the remarks after them, are what was left
-      taken_left : (k : Standing T F size room J w) (zs : List Remark) → thinned (take count zs) (drop o.round.skip (met_in k)) ≡ thin (met_in k)
+      taken_left : (k : Standing alone T F size room J w) (zs : List Remark) → thinned (take count zs) (drop o.round.skip (met_in k)) ≡ thin (met_in k)
           → thinned (take count zs) (rows_in w 32768 p.rows ++ drop p.next (met_in k)) ≡ thin (met_in k)
       taken_left k zs t = rejoin (take count zs) (met_in k) (rows_in w 32768 p.rows) o.round.skip p.next (rows_kept k) (next_after k) (next_within k) ∙ t
 
-      some_rows : (k : Standing T F size room J w) → 0 < p.rows → count ≤ room → (zs : List Remark) → length zs ≡ room
+      some_rows : (k : Standing alone T F size room J w) → 0 < p.rows → count ≤ room → (zs : List Remark) → length zs ≡ room
           → thinned (take count zs) (drop o.round.skip (met_in k)) ≡ thin (met_in k)
-          → Goes T F size room (sought_at room (taken_at J count) 0) zs w (bound room 0 (length (met_in k) - o.round.skip) 0)
+          → Goes alone T F size room (sought_at room (taken_at J count) 0) zs w (bound room 0 (length (met_in k) - o.round.skip) 0)
       some_rows k l n zs len t =
-          let x = sought T F size room w (taken_at J count) zs 0
+          let x = sought alone T F size room w (taken_at J count) zs 0
           (record {
             len = len;
             fit = record { stands = k; going = refl; some = l; count = n; base = omega arith };
@@ -69,9 +69,9 @@ module _ (T F : Bytes) (size room : ℕ) where
           let e : (p.rows - 0 + (p.seen - p.next)) * (room + 1) ≤ (0 + (length (met_in k) - o.round.skip)) * (room + 1) = mul-le-mul_right (room + 1) m in
           (x.0, omega (arith, e, x.1))
 
-      no_rows : (k : Standing T F size room J w) → p.rows ≡ 0 → (q : Stage) → Judges F size (taken_at J count) w q → count ≤ room → (zs : List Remark) → length zs ≡ room
+      no_rows : (k : Standing alone T F size room J w) → p.rows ≡ 0 → (q : Stage) → Judges alone F size (taken_at J count) w q → count ≤ room → (zs : List Remark) → length zs ≡ room
           → thinned (take count zs) (drop o.round.skip (met_in k)) ≡ thin (met_in k)
-          → Goes T F size room q zs w (bound room 0 (length (met_in k) - o.round.skip) 0)
+          → Goes alone T F size room q zs w (bound room 0 (length (met_in k) - o.round.skip) 0)
       unfolding rows_in thinned
       no_rows k z q judges n zs len t =
           let f : p.seen ≤ p.next = not_full p.next p.seen p.rows z (rows_fill k) in
@@ -81,20 +81,20 @@ module _ (T F : Bytes) (size room : ℕ) where
           let x = judges T room k zs len n u in
           (x.0, omega (arith, x.1))
 
-      abbrev standing_of : Safe o.round (length w) p → build T F (length w) size room ≡ made (winning h.schema) size room (run_of T h.schema h.def o.round) → o.round.skip ≤ length es
-          → Runs T F o.round (length w) o.name (answered r p) w → Standing T F size room J w
+      abbrev standing_of : Safe o.round (length w) p → build alone T F (length w) size room ≡ made (winning h.schema) size room (run_of alone T h.schema h.def o.round) → o.round.skip ≤ length es
+          → Runs alone T F o.round (length w) o.name (answered r p) w → Standing alone T F size room J w
       standing_of s b k runs = record { rooted = h; safe = s; builds = b; meets = runs.says h.schema h.def h.whole h.entries h.wins; skips = k }
 
   -- it ran in the area a, and the work area is what b left
-  module _ (o : Opening) (count : ℕ) (a b : Area) (r : Result ℕ Refusal) (ran : Step (λ R n p w. Runs T F R n o.name) a r b) (at : a.round ≡ o.round) (w : Bytes) (is : w ≡ b.bytes.now) where
+  module _ (o : Opening) (count : ℕ) (a b : Area) (r : Result ℕ Refusal) (ran : Step (λ R n p w. Runs alone T F R n o.name) a r b) (at : a.round ≡ o.round) (w : Bytes) (is : w ≡ b.bytes.now) where
     safe : Safe o.round (length w) b.progress
     safe = rw (is, ← at, ← ran.same.round) b.safe
 
-    runs : Runs T F o.round (length w) o.name (answered r b.progress) w
+    runs : Runs alone T F o.round (length w) o.name (answered r b.progress) w
     runs = rw (is, ran.same.size, ← at) ran.did
 
     abbrev Took : Stage → Type 0
-    Took q = Takes T F size room o count q w
+    Took q = Takes alone T F size room o count q w
 
     abbrev taken : Stage
     taken = taken_at (record { opening = o; outcome = r; progress = b.progress }) count
@@ -104,6 +104,6 @@ module _ (T F : Bytes) (size room : ℕ) where
     take_some l q e = rw e (λ h t s n zs len u. some_rows o count w r b.progress h (standing_of o count w r b.progress h safe t s runs) l n zs len u)
 
     -- it has none
-    pub take_none : b.progress.rows ≡ 0 → (q : Stage) → Judges F size taken b.bytes.now q → Took q
+    pub take_none : b.progress.rows ≡ 0 → (q : Stage) → Judges alone F size taken b.bytes.now q → Took q
     take_none z q judges h t s n zs len u =
-        no_rows o count w r b.progress h (standing_of o count w r b.progress h safe t s runs) z q (subst (λ (v : Bytes). Judges F size taken v q) (sym is) judges) n zs len u
+        no_rows o count w r b.progress h (standing_of o count w r b.progress h safe t s runs) z q (subst (λ (v : Bytes). Judges alone F size taken v q) (sym is) judges) n zs len u

@@ -1,6 +1,6 @@
 -- The merge of the rounds' rows into the lent list. Its invariant: what is left leads to the same end.
 use Rattle.std.specs.Prelude as Rust
-use Rattle.std.specs.Prelude.{◌≡◌, ℕ, ◌+◌, ◌*◌, ◌-◌, ◌<◌, ◌≤◌, true, false, cond, ◌||◌, List, [], ◌++◌, ltb, eqb, length, get_or, take, drop, Ok, Err}
+use Rattle.std.specs.Prelude.{◌≡◌, ℕ, ◌+◌, ◌*◌, ◌-◌, ◌<◌, ◌≤◌, true, false, cond, ◌||◌, List, [], ◌++◌, ltb, eqb, length, get_or, take, drop, Ok, Err, Bool}
 use Rattle.numbers.specs.Words.{Bytes}
 use Rattle.numbers.specs.Result.{Result, ok, refused, and_then, needed}
 use Rattle.numbers.specs.Refusal.{number_of}
@@ -75,8 +75,8 @@ abbrev pub row_of : Bytes → ℕ → Remark
 row_of w i = row_in w (32768 + 16 * i)
 
 -- a row is being merged
-pub record Fit (T F w : Bytes) (size room : ℕ) (st : Stage) : Type 0 where
-  pub stands : Standing T F size room st.job w
+pub record Fit (alone : Bool) (T F w : Bytes) (size room : ℕ) (st : Stage) : Type 0 where
+  pub stands : Standing alone T F size room st.job w
   pub going : st.last ≡ false
   pub some : st.row < st.job.progress.rows
   pub count : st.count ≤ room
@@ -90,8 +90,8 @@ Left es w st i zs = thinned (take st.count zs) (rows_in w (32768 + 16 * i) (st.j
 abbrev pub Own : Bytes → Stage → ℕ → List Remark → Type 0
 Own w st i zs = (k j : ℕ) → st.base ≤ k → k < st.count → i ≤ j → j < st.job.progress.rows → same_remark (get_or zs k zero_remark) (row_of w j) ≡ false
 
-pub record Merging (T F : Bytes) (size room : ℕ) (st : Stage) (zs : List Remark) (w : Bytes) : Type 0 where
-  pub fit : Fit T F w size room st
+pub record Merging (alone : Bool) (T F : Bytes) (size room : ℕ) (st : Stage) (zs : List Remark) (w : Bytes) : Type 0 where
+  pub fit : Fit alone T F w size room st
   pub place : st.at < room
   pub settled : st.base ≤ st.at → st.at ≡ st.count
   pub left : Left (met_in fit.stands) w st st.row zs
@@ -104,22 +104,22 @@ pub record Remains (R : Round) (p : Progress) (w : Bytes) : Type 0 where
   pub some : (S : Schema) × InUse S R (length w) p w
 
 -- the file is known, or the refusal
-abbrev pub Known : Bytes → Bytes → ℕ → ℕ → Job → ℕ → Bytes → Rust.Result ℕ Refusal → Type 0
-Known T F size room j len w (Ok x) = Laid T F size room j x len w
-Known T F size room j len w (Err e) = (build T F (length w) size room ≡ refused (number_of e)) × Remains j.opening.round j.progress w
+abbrev pub Known : Bool → Bytes → Bytes → ℕ → ℕ → Job → ℕ → Bytes → Rust.Result ℕ Refusal → Type 0
+Known alone T F size room j len w (Ok x) = Laid alone T F size room j x len w
+Known alone T F size room j len w (Err e) = (build alone T F (length w) size room ≡ refused (number_of e)) × Remains j.opening.round j.progress w
 
 -- the answer is known
-pub record Closing (T F : Bytes) (size room : ℕ) (j : Job) (len count : ℕ) (w : Bytes) : Type 0 where
-  pub counts : count ≡ length (remarks_in (build T F (length w) size room))
-  pub answer : Known T F size room j len w j.outcome
+pub record Closing (alone : Bool) (T F : Bytes) (size room : ℕ) (j : Job) (len count : ℕ) (w : Bytes) : Type 0 where
+  pub counts : count ≡ length (remarks_in (build alone T F (length w) size room))
+  pub answer : Known alone T F size room j len w j.outcome
 
-pub record Closed (T F : Bytes) (size room : ℕ) (st : Stage) (zs : List Remark) (w : Bytes) : Type 0 where
-  pub closing : Closing T F size room st.job st.length st.count w
-  pub front : take st.at zs ≡ remarks_in (build T F (length w) size room)
+pub record Closed (alone : Bool) (T F : Bytes) (size room : ℕ) (st : Stage) (zs : List Remark) (w : Bytes) : Type 0 where
+  pub closing : Closing alone T F size room st.job st.length st.count w
+  pub front : take st.at zs ≡ remarks_in (build alone T F (length w) size room)
 
 -- a row is being merged, or all are
-abbrev pub Inv : Bytes → Bytes → ℕ → ℕ → Stage → List Remark → Bytes → Type 0
-Inv T F size room st zs w = (st.last ≡ false → Merging T F size room st zs w) × (st.last ≡ true → Closed T F size room st zs w)
+abbrev pub Inv : Bool → Bytes → Bytes → ℕ → ℕ → Stage → List Remark → Bytes → Type 0
+Inv alone T F size room st zs w = (st.last ≡ false → Merging alone T F size room st zs w) × (st.last ≡ true → Closed alone T F size room st zs w)
 
 -- turns that are left at most, with n rows and m remarks left
 abbrev pub bound : ℕ → ℕ → ℕ → ℕ → ℕ
@@ -129,31 +129,31 @@ unfoldable pub turns : ℕ → Stage → ℕ
 turns room st = cond st.last 0 (bound room (st.job.progress.rows - st.row) (st.job.progress.seen - st.job.progress.next) st.at)
 
 -- the invariant holds, with at most n turns left
-abbrev pub Goes : Bytes → Bytes → ℕ → ℕ → Stage → List Remark → Bytes → ℕ → Type 0
-Goes T F size room st zs w n = Inv T F size room st zs w × (turns room st ≤ n)
+abbrev pub Goes : Bool → Bytes → Bytes → ℕ → ℕ → Stage → List Remark → Bytes → ℕ → Type 0
+Goes alone T F size room st zs w n = Inv alone T F size room st zs w × (turns room st ≤ n)
 
 -- what the functions say
 
 -- all rows are merged
-abbrev pub Judges : Bytes → ℕ → Stage → Bytes → Stage → Type 0
-Judges F size st w r =
-    (T : Bytes) (room : ℕ) (h : Standing T F size room st.job w) (zs : List Remark) → length zs ≡ room → st.count ≤ room → take st.count zs ≡ thin (met_in h)
-    → Goes T F size room r zs w 0
+abbrev pub Judges : Bool → Bytes → ℕ → Stage → Bytes → Stage → Type 0
+Judges alone F size st w r =
+    (T : Bytes) (room : ℕ) (h : Standing alone T F size room st.job w) (zs : List Remark) → length zs ≡ room → st.count ≤ room → take st.count zs ≡ thin (met_in h)
+    → Goes alone T F size room r zs w 0
 
 -- a round runs, and its rows are taken
-abbrev pub Takes : Bytes → Bytes → ℕ → ℕ → Opening → ℕ → Stage → Bytes → Type 0
-Takes T F size room o count r w =
-    (h : Rooted F o.round o.place o.name) → build T F (length w) size room ≡ made (winning h.schema) size room (run_of T h.schema h.def o.round)
-    → o.round.skip ≤ length (events_of (run_of T h.schema h.def o.round)) → count ≤ room → (zs : List Remark) → length zs ≡ room
-    → thinned (take count zs) (drop o.round.skip (events_of (run_of T h.schema h.def o.round))) ≡ thin (events_of (run_of T h.schema h.def o.round))
-    → Goes T F size room r zs w (bound room 0 (length (events_of (run_of T h.schema h.def o.round)) - o.round.skip) 0)
+abbrev pub Takes : Bool → Bytes → Bytes → ℕ → ℕ → Opening → ℕ → Stage → Bytes → Type 0
+Takes alone T F size room o count r w =
+    (h : Rooted F o.round o.place o.name) → build alone T F (length w) size room ≡ made (winning h.schema) size room (run_of alone T h.schema h.def o.round)
+    → o.round.skip ≤ length (events_of (run_of alone T h.schema h.def o.round)) → count ≤ room → (zs : List Remark) → length zs ≡ room
+    → thinned (take count zs) (drop o.round.skip (events_of (run_of alone T h.schema h.def o.round))) ≡ thin (events_of (run_of alone T h.schema h.def o.round))
+    → Goes alone T F size room r zs w (bound room 0 (length (events_of (run_of alone T h.schema h.def o.round)) - o.round.skip) 0)
 
 -- what is refused before the layout, or what it runs with, in a work area of n bytes
-abbrev pub Opens : Bytes → Bytes → ℕ → Result Opening → Type 0
-Opens T F n (refused k) = (size room : ℕ) → build T F n size room ≡ refused k
-Opens T F n (ok o) =
+abbrev pub Opens : Bool → Bytes → Bytes → ℕ → Result Opening → Type 0
+Opens alone T F n (refused k) = (size room : ℕ) → build alone T F n size room ≡ refused k
+Opens alone T F n (ok o) =
     (h : Rooted F o.round o.place o.name)
-    × (Roomy o.round n × (o.round.skip ≡ 0) × ((size room : ℕ) → build T F n size room ≡ made (winning h.schema) size room (run_of T h.schema h.def o.round)))
+    × (Roomy o.round n × (o.round.skip ≡ 0) × ((size room : ℕ) → build alone T F n size room ≡ made (winning h.schema) size room (run_of alone T h.schema h.def o.round)))
 
 -- the rooms of a work area of n bytes; 12
 abbrev pub roomed_at : ℕ → ℕ → ℕ → ℕ → Result Opening

@@ -1,5 +1,5 @@
 -- A round: what it is run with, and what stands in the work area after it.
-use Rattle.std.specs.Prelude.{◌≡◌, ℕ, ◌+◌, ◌*◌, ◌≤◌, List, [], length, Some}
+use Rattle.std.specs.Prelude.{◌≡◌, ℕ, ◌+◌, ◌*◌, ◌≤◌, List, [], length, Some, Bool}
 use Rattle.numbers.specs.Words.{Bytes}
 use Rattle.numbers.specs.Result.{Result, ok, and_then}
 use Rattle.value.specs.Rows.{row, fields_of}
@@ -31,32 +31,32 @@ pub record Rooted (F : Bytes) (R : Round) (place name : ℕ) : Type 0 where
   pub found : last_place F 0 name ≡ Some place
 
 -- the layout
-abbrev pub run_of : Bytes → Schema → StructDef → Round → Out ℕ
-run_of T S d R = root (env_of T S R) d (fields_of T (row T 0)) empty_state
+abbrev pub run_of : Bool → Bytes → Schema → StructDef → Round → Out ℕ
+run_of alone T S d R = root (env_of T S R) alone d (fields_of T (row T 0)) empty_state
 
 -- a run of the layout, and what it leaves: the root's pointer, or a refusal
-pub record Runs (T F : Bytes) (R : Round) (n name : ℕ) (r : Ans ℕ) (w : Bytes) : Type 0 where
+pub record Runs (alone : Bool) (T F : Bytes) (R : Round) (n name : ℕ) (r : Ans ℕ) (w : Bytes) : Type 0 where
   pub says : (S : Schema) (d : StructDef) → schema_of F ≡ ok S → index_entries S ≡ R.entries → (winning S).struct name ≡ Some d
-      → Meets S R n (λ _. []) (λ a x. a ≡ x) (run_of T S d R) r w
+      → Meets S R n (λ _. []) (λ a x. a ≡ x) (run_of alone T S d R) r w
 
 -- building, after the layout
 abbrev pub made : Lookup → ℕ → ℕ → Out ℕ → Result Built
 made L size room o = and_then (laid_from L room o) λ l. fitted size (packed l)
 
 -- the round j has run, and stands in the work area
-pub record Standing (T F : Bytes) (size room : ℕ) (j : Job) (w : Bytes) : Type 0 where
+pub record Standing (alone : Bool) (T F : Bytes) (size room : ℕ) (j : Job) (w : Bytes) : Type 0 where
   pub rooted : Rooted F j.opening.round j.opening.place j.opening.name
   pub safe : Safe j.opening.round (length w) j.progress
-  pub builds : build T F (length w) size room ≡ made (winning rooted.schema) size room (run_of T rooted.schema rooted.def j.opening.round)
-  pub meets : Meets rooted.schema j.opening.round (length w) (λ _. []) (λ a x. a ≡ x) (run_of T rooted.schema rooted.def j.opening.round) (answered j.outcome j.progress) w
-  pub skips : j.opening.round.skip ≤ length (events_of (run_of T rooted.schema rooted.def j.opening.round))
+  pub builds : build alone T F (length w) size room ≡ made (winning rooted.schema) size room (run_of alone T rooted.schema rooted.def j.opening.round)
+  pub meets : Meets rooted.schema j.opening.round (length w) (λ _. []) (λ a x. a ≡ x) (run_of alone T rooted.schema rooted.def j.opening.round) (answered j.outcome j.progress) w
+  pub skips : j.opening.round.skip ≤ length (events_of (run_of alone T rooted.schema rooted.def j.opening.round))
 
 -- all remarks that the layout meets
-abbrev pub met_in : {T F : Bytes} {size room : ℕ} {j : Job} {w : Bytes} → Standing T F size room j w → List Remark
-met_in {T} {F} {size} {room} {j} {w} h = events_of (run_of T h.rooted.schema h.rooted.def j.opening.round)
+abbrev pub met_in : {alone : Bool} {T F : Bytes} {size room : ℕ} {j : Job} {w : Bytes} → Standing alone T F size room j w → List Remark
+met_in {alone} {T} {F} {size} {room} {j} {w} h = events_of (run_of alone T h.rooted.schema h.rooted.def j.opening.round)
 
 -- the pack is built, but for the file of `len` bytes; the root has the pointer
-pub record Laid (T F : Bytes) (size room : ℕ) (j : Job) (pointer len : ℕ) (w : Bytes) : Type 0 where
+pub record Laid (alone : Bool) (T F : Bytes) (size room : ℕ) (j : Job) (pointer len : ℕ) (w : Bytes) : Type 0 where
   pub schema : Schema
   pub state : State
   pub stack : Bytes
@@ -67,7 +67,7 @@ pub record Laid (T F : Bytes) (size room : ℕ) (j : Job) (pointer len : ℕ) (w
   pub long : len ≡ length (file_of (winning schema) pointer state.core)
   pub fits : len ≤ size
   pub small : len ≤ 16777216
-  pub builds : build T F (length w) size room ≡ ok (packed (record { state = state; pointer = pointer; defs = winning schema }))
+  pub builds : build alone T F (length w) size room ≡ ok (packed (record { state = state; pointer = pointer; defs = winning schema }))
 
 -- before the first byte: all is empty
 abbrev pub beginning_of : Round → Progress

@@ -9,9 +9,10 @@ pub mod merge;
 pub mod opening;
 pub mod run;
 
-// What is built: the sheet, the schema, the output's length, and how many records are lent for remarks.
+// What is built: whether the root gets a block of its own, the sheet, the schema, the output's length, and how many records are lent for remarks.
 #[derive(Clone, Copy)]
 pub struct Task<'a> {
+    pub alone: bool,
     pub sheet: &'a [u8],
     pub schema: &'a [u8],
     pub size: usize,

@@ -56,7 +56,7 @@ impl Task<'_> {
         requires round { area.now.round ≡ stage.job.opening.round }
         requires progress { area.now.progress ≡ stage.job.progress }
         ensures value { result ≡ judged_at self.now.size stage (length_of self.now.schema.now stage.job.opening.round stage.job.progress area.now.bytes.now) }
-        ensures judges { Judges self.now.schema.now self.now.size stage area.now.bytes.now result }
+        ensures judges { Judges self.now.alone self.now.schema.now self.now.size stage area.now.bytes.now result }
     {
         if let Err(refusal) = stage.job.outcome {
             return stage.job.refused(refusal);
@@ -77,7 +77,7 @@ impl Task<'_> {
     pub fn take_round(&self, work: &mut [u8], opening: Opening, count: usize) -> Stage
         requires { Roomy opening.round (length work.old) × (work.old ≡ zeros (length work.old))
             × Rooted self.now.schema.now opening.round opening.place opening.name }
-        ensures { Takes self.now.sheet.now self.now.schema.now self.now.size self.now.room opening count result work.new }
+        ensures { Takes self.now.alone self.now.sheet.now self.now.schema.now self.now.size self.now.room opening count result work.new }
     {
         let mut area = opening.begin(work);
         let outcome = self.run(&mut area, &opening);

@@ -57,7 +57,7 @@ impl Task<'_> {
     // What is judged before the layout, for a work area of `work` bytes: the sheet, the schema, the root's definition, the work area.
     pub fn opened(&self, work: usize) -> Result<Opening, Refusal>
         ensures value { answer_of result ≡ opening_of self.now.sheet.now self.now.schema.now work }
-        ensures opens { Opens self.now.sheet.now self.now.schema.now work (answer_of result) }
+        ensures opens { Opens self.now.alone self.now.sheet.now self.now.schema.now work (answer_of result) }
     {
         check_sheet(self.sheet)?;
         self.schemed(work)

@@ -66,7 +66,7 @@ impl Task<'_> {
         requires begun { area.old.progress ≡ beginning_of area.old.round }
         requires clear { area.old.bytes.now ≡ zeros (size area.old) }
         requires rooted { Rooted self.now.schema.now area.old.round opening.now.place opening.now.name }
-        ensures { Step (λ R n p w. Runs self.now.sheet.now self.now.schema.now R n opening.now.name) area.old result area.new }
+        ensures { Step (λ R n p w. Runs self.now.alone self.now.sheet.now self.now.schema.now R n opening.now.name) area.old result area.new }
     {
         let root = def_at(self.schema, opening.name, opening.place);
         let writer = Writer {
@@ -75,6 +75,6 @@ impl Task<'_> {
             left: NESTED,
         };
         writer.write_struct(area, root, Source::Row(0), DEPTHS)?;
-        area.lay(opening.name, root.size as usize)
+        area.lay_item(self.alone, opening.name, root.size as usize)
     }
 }

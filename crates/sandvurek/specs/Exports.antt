@@ -1,5 +1,5 @@
 -- What each exported function answers.
-use Rattle.std.specs.Prelude.{ℕ, ◌+◌, ◌*◌, ◌≡◌, List, length, Option, Some, None}
+use Rattle.std.specs.Prelude.{ℕ, ◌+◌, ◌*◌, ◌≡◌, Bool, not, List, eqb, length, Option, Some, None}
 use Rattle.numbers.specs.Words.{Bytes}
 use Rattle.numbers.specs.Result.{Result, ok, refused, nth}
 use Rattle.schema.specs.Sections.{sections}
@@ -24,6 +24,10 @@ use Rattle.sandvurek.specs.declared.Block.{Block}
 use Rattle.sandvurek.specs.declared.Definition.{Definition}
 use Rattle.sandvurek.specs.declared.Member.{Member}
 use Rattle.sandvurek.specs.declared.Entry.{Entry}
+
+-- what a flag says: 0 is no, every other number is yes
+abbrev pub is_set : ℕ → Bool
+is_set n = not (eqb n 0)
 
 -- "Success gives the file's length and the remark count"; "A refusal gives its number"
 abbrev pub outcome_is : Answer → Outcome

@@ -1,7 +1,7 @@
 // The library's functions for C and Rust. A slice passes as pointer, then length; every call takes any bytes.
 #![tactic(auto)]
 
-ghost use Rattle.std.specs.Prelude.{◌≡◌, length};
+ghost use Rattle.std.specs.Prelude.{◌≡◌, false, length};
 ghost use Rattle.numbers.specs.Refusal as refusals;
 ghost use Rattle.numbers.specs.Result.{ok};
 ghost use Rattle.schema.specs.Defs.{leading};
@@ -9,7 +9,7 @@ ghost use Rattle.pso.specs.Reader.{Pso, parse_pso};
 ghost use Rattle.pso.specs.Blocks.{numbered};
 ghost use Rattle.layout.specs.Build.{build_pso};
 ghost use Rattle.turns.specs.Answers.{answer_of};
-ghost use Rattle.sandvurek.specs.Exports.{outcome_is, BuildIs, reading_shows, reading_of, block_shows, block_is, block_of, definition_is, structure_of, enum_of, member_shows, member_of, entry_is, entry_of, StructIs, EnumIs};
+ghost use Rattle.sandvurek.specs.Exports.{is_set, outcome_is, BuildIs, reading_shows, reading_of, block_shows, block_is, block_of, definition_is, structure_of, enum_of, member_shows, member_of, entry_is, entry_of, StructIs, EnumIs};
 
 use definitions::members::{self, read_entry, read_member};
 use layout::Remark;
@@ -60,10 +60,26 @@ pub extern "C" fn sandvurek_build(
     out: &mut [u8],
     remarks: &mut [Remark],
 ) -> Outcome
-    ensures { BuildIs (build_pso sheet.now schema.now (length work.old) out.old (length remarks.old))
+    ensures { BuildIs (build_pso false sheet.now schema.now (length work.old) out.old (length remarks.old))
         result out.new remarks.new work.new }
 {
-    build_pso(sheet, schema, work, out, remarks).into()
+    build_pso(false, sheet, schema, work, out, remarks).into()
+}
+
+// The same in one of two ways: with `root_alone` other than 0 the root gets a new last block, whatever room others have.
+#[unsafe(no_mangle)]
+pub extern "C" fn sandvurek_build_with(
+    root_alone: u32,
+    sheet: &[u8],
+    schema: &[u8],
+    work: &mut [u8],
+    out: &mut [u8],
+    remarks: &mut [Remark],
+) -> Outcome
+    ensures { BuildIs (build_pso (is_set root_alone) sheet.now schema.now (length work.old) out.old (length remarks.old))
+        result out.new remarks.new work.new }
+{
+    build_pso(root_alone != 0, sheet, schema, work, out, remarks).into()
 }
 
 // What the reader gives: code 0, the root's block number, where the data section stands in the file and its length, the

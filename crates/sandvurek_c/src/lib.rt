@@ -1,14 +1,14 @@
-// The functions of `sandvurek` for C and Rust: each calls the library's, and states its clauses again. The seven are of one
+// The functions of `sandvurek` for C and Rust: each calls the library's, and states its clauses again. The eight are of one
 // shape, since each is an exported name of C. A slice passes as pointer, then length; every call takes any bytes.
 #![tactic(auto)]
 
-ghost use Rattle.std.specs.Prelude.{◌≡◌, length};
+ghost use Rattle.std.specs.Prelude.{◌≡◌, false, length};
 ghost use Rattle.numbers.specs.Result.{ok};
 ghost use Rattle.schema.specs.Defs.{leading};
 ghost use Rattle.pso.specs.Reader.{Pso, parse_pso};
 ghost use Rattle.pso.specs.Blocks.{numbered};
 ghost use Rattle.layout.specs.Build.{build_pso};
-ghost use Rattle.sandvurek.specs.Exports.{BuildIs, reading_of, block_is, block_of, structure_of, enum_of, member_of, entry_of, StructIs, EnumIs};
+ghost use Rattle.sandvurek.specs.Exports.{is_set, BuildIs, reading_of, block_is, block_of, structure_of, enum_of, member_of, entry_of, StructIs, EnumIs};
 
 use layout::Remark;
 use sandvurek::{Block, Definition, Entry, Member, Outcome, Reading};
@@ -22,10 +22,26 @@ pub extern "C" fn sandvurek_build(
     out: &mut [u8],
     remarks: &mut [Remark],
 ) -> Outcome
-    ensures { BuildIs (build_pso sheet.now schema.now (length work.old) out.old (length remarks.old))
+    ensures { BuildIs (build_pso false sheet.now schema.now (length work.old) out.old (length remarks.old))
         result out.new remarks.new work.new }
 {
     sandvurek::sandvurek_build(sheet, schema, work, out, remarks)
+}
+
+// The same in one of two ways: with `root_alone` other than 0 the root gets a new last block, whatever room others have.
+#[unsafe(no_mangle)]
+pub extern "C" fn sandvurek_build_with(
+    root_alone: u32,
+    sheet: &[u8],
+    schema: &[u8],
+    work: &mut [u8],
+    out: &mut [u8],
+    remarks: &mut [Remark],
+) -> Outcome
+    ensures { BuildIs (build_pso (is_set root_alone) sheet.now schema.now (length work.old) out.old (length remarks.old))
+        result out.new remarks.new work.new }
+{
+    sandvurek::sandvurek_build_with(root_alone, sheet, schema, work, out, remarks)
 }
 
 // Reads a file.

@@ -1,5 +1,5 @@
 -- The beginning and the end: the first round, the answer, the file, and what the list holds. Assumes nothing.
-use Rattle.std.specs.Prelude.{Result, Ok, Err}
+use Rattle.std.specs.Prelude.{Result, Ok, Err, Bool}
 use mathlib.Core.Path.{◌≡◌, refl, sym, ap, subst, ◌∙◌}
 use mathlib.Core.List.{List, [], ◌++◌, append-nil}
 use Prim.Native.Nat.{ℕ, ◌+◌, ◌≤◌, zero-le}
@@ -41,16 +41,16 @@ over_front : (out b : Bytes) → over out 0 b ≡ b ++ drop (length b) out
 unfolding over
 over_front out b = let e : 0 + length b ≡ length b = omega arith in ap (λ (k : ℕ). b ++ drop k out) e
 
-module _ (T F : Bytes) (size room : ℕ) where
+module _ (alone : Bool) (T F : Bytes) (size room : ℕ) where
   -- a refusal before the layout
-  pub begin_refused : (w w' : Bytes) (e : Refusal) → w' ≡ over w 0 (zeros (length w)) → Opens T F (length w) (refused (number_of e)) → Begins T F size room (Err e) w'
+  pub begin_refused : (w w' : Bytes) (e : Refusal) → w' ≡ over w 0 (zeros (length w)) → Opens alone T F (length w) (refused (number_of e)) → Begins alone T F size room (Err e) w'
   begin_refused w w' e q o =
       let z : w' ≡ zeros (length w) = q ∙ cleared w in
       let l : length w' ≡ length w = ap length z ∙ length_zeros (length w) in
-      (ap (λ (m : ℕ). build T F m size room) l ∙ o size room, z ∙ ap zeros (sym l))
+      (ap (λ (m : ℕ). build alone T F m size room) l ∙ o size room, z ∙ ap zeros (sym l))
 
   -- the first round can run in the cleared area
-  pub begin_ready : (w w' : Bytes) (o : Opening) → w' ≡ over w 0 (zeros (length w)) → Opens T F (length w) (ok o)
+  pub begin_ready : (w w' : Bytes) (o : Opening) → w' ≡ over w 0 (zeros (length w)) → Opens alone T F (length w) (ok o)
       → Roomy o.round (length w') × (w' ≡ zeros (length w')) × Rooted F o.round o.place o.name
   begin_ready w w' o e h =
       let z : w' ≡ zeros (length w) = e ∙ cleared w in
@@ -58,27 +58,27 @@ module _ (T F : Bytes) (size room : ℕ) where
       (subst (Roomy o.round) (sym l) h.1.0, z ∙ ap zeros (sym l), h.0)
 
   -- the first round
-  pub begin_round : (w : Bytes) (n : ℕ) (o : Opening) → length w ≡ n → Opens T F n (ok o) → (r : Stage) → Takes T F size room o 0 r w → Begins T F size room (Ok r) w
+  pub begin_round : (w : Bytes) (n : ℕ) (o : Opening) → length w ≡ n → Opens alone T F n (ok o) → (r : Stage) → Takes alone T F size room o 0 r w → Begins alone T F size room (Ok r) w
   unfolding thin
   begin_round w n o l h r takes zs len =
-      (takes h.0 (ap (λ (m : ℕ). build T F m size room) l ∙ h.1.2 size room) (omega (arith, h.1.1)) zero-le zs len
-      (ap (λ (k : ℕ). thinned [] (drop k (events_of (run_of T h.0.schema h.0.def o.round)))) h.1.1)).0
+      (takes h.0 (ap (λ (m : ℕ). build alone T F m size room) l ∙ h.1.2 size room) (omega (arith, h.1.1)) zero-le zs len
+      (ap (λ (k : ℕ). thinned [] (drop k (events_of (run_of alone T h.0.schema h.0.def o.round)))) h.1.1)).0
 
 -- the end
 
 -- a refusal before the first round: all stays as it is
-pub end_unbegun : (T F out w : Bytes) (room : ℕ) (e : Refusal) → Unbegun T F (length out) room e w → Ends T F room (length w) out (Err e) out w
+pub end_unbegun : (alone : Bool) (T F out w : Bytes) (room : ℕ) (e : Refusal) → Unbegun alone T F (length out) room e w → Ends alone T F room (length w) out (Err e) out w
 unfolding build_pso afterwards
-end_unbegun T F out w room e h =
+end_unbegun alone T F out w room e h =
     (ap (λ x. (afterwards (length w) out room x).answer) (sym h.0), ap (λ x. (afterwards (length w) out room x).output) (sym h.0), h.1)
 
-module _ (T F out w : Bytes) (room len count : ℕ) (j : Job) (h : Closing T F (length out) room j len count w) where
-  known : (r : Result ℕ Refusal) → j.outcome ≡ r → Known T F (length out) room j len w r
-  known r g = subst (Known T F (length out) room j len w) g h.answer
+module _ (alone : Bool) (T F out w : Bytes) (room len count : ℕ) (j : Job) (h : Closing alone T F (length out) room j len count w) where
+  known : (r : Result ℕ Refusal) → j.outcome ≡ r → Known alone T F (length out) room j len w r
+  known r g = subst (Known alone T F (length out) room j len w) g h.answer
 
   -- a refusal, after which what is in use of the work area is wiped
   pub end_wiped : (e : Refusal) → j.outcome ≡ Err e → (v w' : Bytes) → w' ≡ v → ((S : Schema) → InUse S j.opening.round (length w) j.progress w → v ≡ zeros (length w))
-      → Ends T F room (length w) out (Err e) out w'
+      → Ends alone T F room (length w) out (Err e) out w'
   unfolding build_pso afterwards
   end_wiped e g v w' is wipes =
       let k = known (Err e) g in
@@ -90,7 +90,7 @@ module _ (T F out w : Bytes) (room len count : ℕ) (j : Job) (h : Closing T F (
 
   -- the file fits
   module _ (pointer : ℕ) (g : j.outcome ≡ Ok pointer) where
-    laid : Laid T F (length out) room j pointer len w
+    laid : Laid alone T F (length out) room j pointer len w
     laid = known (Ok pointer) g
 
     fitting : Fitting F j.opening.round j.progress w pointer (length out) laid.schema laid.state laid.stack
@@ -106,7 +106,7 @@ module _ (T F out w : Bytes) (room len count : ℕ) (j : Job) (h : Closing T F (
         → ((S : Schema) (s : State) (σ : Bytes) → Fitting F j.opening.round j.progress w pointer (length out) S s σ
         → (out' ≡ over out 0 (file_of (winning S) pointer s.core)) × (w₁ ≡ over w table_at (words (places_of 16 s.core.blocks))))
         → length w₁ ≡ length w → ((S : Schema) → InUse S j.opening.round (length w₁) j.progress w₁ → v ≡ zeros (length w₁))
-        → Ends T F room (length w) out (Ok (record { length = len; remarks = count })) out' w'
+        → Ends alone T F room (length w) out (Ok (record { length = len; remarks = count })) out' w'
     unfolding build_pso afterwards packed
     end_file out' w₁ v w' is writes l₁ wipes =
         let b = laid.builds in
@@ -134,23 +134,23 @@ together : (a : Answer) (o : Bytes) (zs : List Remark) (w : Bytes) (x : After) �
 together a o zs w x p q r s = rw (p, q, r, s) refl
 
 -- what the call leaves, with zeros behind the remarks
-leaves_law : (T F : Bytes) (size room n : ℕ) (w out : Bytes) (zs : List Remark) → length w ≡ n → length out ≡ size → zs ≡ filled room (remarks_in (build T F (length w) size room))
-    → (r : Result Built Refusal) (out' w' : Bytes) → Ends T F room (length w) out r out' w' → leaves r out' zs w' ≡ build_pso T F n out room
+leaves_law : (alone : Bool) (T F : Bytes) (size room n : ℕ) (w out : Bytes) (zs : List Remark) → length w ≡ n → length out ≡ size → zs ≡ filled room (remarks_in (build alone T F (length w) size room))
+    → (r : Result Built Refusal) (out' w' : Bytes) → Ends alone T F room (length w) out r out' w' → leaves r out' zs w' ≡ build_pso alone T F n out room
 unfolding build_pso
-leaves_law T F size room n w out zs ln lo q r out' w' e =
-    together (answer_of r) out' zs w' (build_pso T F (length w) out room) e.0 e.1
-    (q ∙ ap (λ (k : ℕ). filled room (remarks_in (build T F (length w) k room))) (sym lo) ∙ remarks_are (length w) room out (build T F (length w) (length out) room))
-    (e.2 ∙ work_is (length w) room out (build T F (length w) (length out) room))
-    ∙ ap (λ (k : ℕ). build_pso T F k out room) ln
+leaves_law alone T F size room n w out zs ln lo q r out' w' e =
+    together (answer_of r) out' zs w' (build_pso alone T F (length w) out room) e.0 e.1
+    (q ∙ ap (λ (k : ℕ). filled room (remarks_in (build alone T F (length w) k room))) (sym lo) ∙ remarks_are (length w) room out (build alone T F (length w) (length out) room))
+    (e.2 ∙ work_is (length w) room out (build alone T F (length w) (length out) room))
+    ∙ ap (λ (k : ℕ). build_pso alone T F k out room) ln
 
 -- a refusal before the first round, with zeros in all records
-pub leaves_none : (T F : Bytes) (size room n : ℕ) (e : Refusal) (w out : Bytes) (zs : List Remark) → length w ≡ n → length out ≡ size → Unbegun T F size room e w
-    → zs ≡ filled room [] → (r : Result Built Refusal) (out' w' : Bytes) → Ends T F room (length w) out r out' w' → leaves r out' zs w' ≡ build_pso T F n out room
-leaves_none T F size room n e w out zs ln lo h q = leaves_law T F size room n w out zs ln lo (q ∙ ap (λ x. filled room (remarks_in x)) (sym h.0))
+pub leaves_none : (alone : Bool) (T F : Bytes) (size room n : ℕ) (e : Refusal) (w out : Bytes) (zs : List Remark) → length w ≡ n → length out ≡ size → Unbegun alone T F size room e w
+    → zs ≡ filled room [] → (r : Result Built Refusal) (out' w' : Bytes) → Ends alone T F room (length w) out r out' w' → leaves r out' zs w' ≡ build_pso alone T F n out room
+leaves_none alone T F size room n e w out zs ln lo h q = leaves_law alone T F size room n w out zs ln lo (q ∙ ap (λ x. filled room (remarks_in x)) (sym h.0))
 
 -- all rounds are over, with zeros behind the remarks
-pub leaves_all : (T F : Bytes) (size room : ℕ) (st : Stage) (zs : List Remark) (w : Bytes) → length zs ≡ room → Closed T F size room st zs w
+pub leaves_all : (alone : Bool) (T F : Bytes) (size room : ℕ) (st : Stage) (zs : List Remark) (w : Bytes) → length zs ≡ room → Closed alone T F size room st zs w
     → (zs' : List Remark) → zs' ≡ filled (length zs) (take st.at zs) → (n : ℕ) → length w ≡ n → (out : Bytes) → length out ≡ size
-    → (r : Result Built Refusal) (out' w' : Bytes) → Ends T F room (length w) out r out' w' → leaves r out' zs' w' ≡ build_pso T F n out room
-leaves_all T F size room st zs w len h zs' rest n ln out lo =
-    leaves_law T F size room n w out zs' ln lo (rest ∙ ap (λ (m : ℕ). filled m (take st.at zs)) len ∙ ap (filled room) h.front)
+    → (r : Result Built Refusal) (out' w' : Bytes) → Ends alone T F room (length w) out r out' w' → leaves r out' zs' w' ≡ build_pso alone T F n out room
+leaves_all alone T F size room st zs w len h zs' rest n ln out lo =
+    leaves_law alone T F size room n w out zs' ln lo (rest ∙ ap (λ (m : ℕ). filled m (take st.at zs)) len ∙ ap (filled room) h.front)

@@ -32,14 +32,14 @@ turns_fall room st n l h a b =
     let p : (st.job.progress.rows - st.row + m) * (room + 1) ≡ y * (room + 1) + (room + 1) = ap (λ (k : ℕ). k * (room + 1)) e ∙ suc-mul y (room + 1) in
     omega (arith, turns_seeking room st l, p, b, a)
 
-module _ (T F : Bytes) (size room : ℕ) where
+module _ (alone : Bool) (T F : Bytes) (size room : ℕ) where
   -- a turn
-  module _ (st : Stage) (old : Remark) (w : Bytes) (place : st.at < room) (fit : Fit T F w size room st) where
+  module _ (st : Stage) (old : Remark) (w : Bytes) (place : st.at < room) (fit : Fit alone T F w size room st) where
     -- the record equals the row
-    pub step_found : st.at < st.base → same_remark old (row_of w st.row) ≡ true → (r : Stage) (w' : Bytes) → Passes T F size room st w r w'
-        → Steps T F size room st old w (record { stage = r; new = old }) w'
+    pub step_found : st.at < st.base → same_remark old (row_of w st.row) ≡ true → (r : Stage) (w' : Bytes) → Passes alone T F size room st w r w'
+        → Steps alone T F size room st old w (record { stage = r; new = old }) w'
     step_found h same r w' passes zs len eo inv =
-        let m : Merging T F size room st zs w = inv.0 fit.going in
+        let m : Merging alone T F size room st zs w = inv.0 fit.going in
         let es : List Remark = met_in m.fit.stands in
         let acc : List Remark = take st.count zs in
         let x : Remark = row_of w st.row in
@@ -50,16 +50,16 @@ module _ (T F : Bytes) (size room : ℕ) where
         (ap (λ (l : List Remark). thinned l (rows_in w (32768 + 16 * (st.row + 1)) (st.job.progress.rows - (st.row + 1)) ++ drop st.job.progress.next es)) (sym (noted_in x acc mem))
         ∙ some_left w st zs es fit.some m.left)
         (λ k j a b c d. m.own k j a b (omega (arith, c)) d) in (
-          subst (λ (l : List Remark). Inv T F size room r l w') (sym (ap (set zs st.at) eo ∙ set-get_or zs st.at zero_remark)) g.0,
+          subst (λ (l : List Remark). Inv alone T F size room r l w') (sym (ap (set zs st.at) eo ∙ set-get_or zs st.at zero_remark)) g.0,
           turns_fall room st (turns room r) fit.going fit.some place g.1,
         )
 
     -- it does not: the next one
     pub step_next : st.at < st.base → same_remark old (row_of w st.row) ≡ false → (r : Stage) → r ≡ sought_at room st (st.at + 1)
-        → Steps T F size room st old w (record { stage = r; new = old }) w
+        → Steps alone T F size room st old w (record { stage = r; new = old }) w
     step_next h differ r q zs len eo inv =
-        let m : Merging T F size room st zs w = inv.0 fit.going in
-        let g = sought T F size room w st zs (st.at + 1)
+        let m : Merging alone T F size room st zs w = inv.0 fit.going in
+        let g = sought alone T F size room w st zs (st.at + 1)
         (record {
           len = len;
           fit = m.fit;
@@ -70,7 +70,7 @@ module _ (T F : Bytes) (size room : ℕ) where
               (ap (λ (y : Remark). same_remark y (row_of w st.row)) (sym eo) ∙ differ);
         }) in
         let t : turns room (sought_at room st (st.at + 1)) < turns room st = omega (arith, turns_seeking room st fit.going, g.1, place) in (
-          subst (λ (l : List Remark). Inv T F size room r l w) (sym (ap (set zs st.at) eo ∙ set-get_or zs st.at zero_remark)) (subst (λ (x : Stage). Inv T F size room x zs w) (sym q) g.0),
+          subst (λ (l : List Remark). Inv alone T F size room r l w) (sym (ap (set zs st.at) eo ∙ set-get_or zs st.at zero_remark)) (subst (λ (x : Stage). Inv alone T F size room x zs w) (sym q) g.0),
           subst (λ (x : Stage). turns room x < turns room st) (sym q) t,
         )
 
@@ -89,10 +89,10 @@ module _ (T F : Bytes) (size room : ℕ) where
             ∙ own k j b (omega (arith, c, a, eqb-false k st.at q)) (omega (arith, d)) e
 
     -- the row is put behind the others
-    pub step_put : st.base ≤ st.at → (x : Remark) → x ≡ row_of w st.row → (r : Stage) (w' : Bytes) → Passes T F size room (with_count st (st.count + 1)) w r w'
-        → Steps T F size room st old w (record { stage = r; new = x }) w'
+    pub step_put : st.base ≤ st.at → (x : Remark) → x ≡ row_of w st.row → (r : Stage) (w' : Bytes) → Passes alone T F size room (with_count st (st.count + 1)) w r w'
+        → Steps alone T F size room st old w (record { stage = r; new = x }) w'
     step_put h x ex r w' passes zs len eo inv =
-        let m : Merging T F size room st zs w = inv.0 fit.going in
+        let m : Merging alone T F size room st zs w = inv.0 fit.going in
         let es : List Remark = met_in m.fit.stands in
         let a : st.at ≡ st.count = m.settled h in
         let acc : List Remark = take st.count zs in

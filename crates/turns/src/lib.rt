@@ -30,7 +30,7 @@ pub struct Turn {
 
 // The work area is cleared, all is checked, and the first round runs.
 pub fn first(task: &Task<'_>, work: &mut [u8]) -> Result<Stage, Refusal>
-    ensures { Begins task.now.sheet.now task.now.schema.now task.now.size task.now.room result work.new }
+    ensures { Begins task.now.alone task.now.sheet.now task.now.schema.now task.now.size task.now.room result work.new }
 {
     let n = work.len();
     clear(work, 0, n);
@@ -40,8 +40,8 @@ pub fn first(task: &Task<'_>, work: &mut [u8]) -> Result<Stage, Refusal>
 
 // A row is done with: the next one; or the next round; or the end.
 fn passed(task: &Task<'_>, work: &mut [u8], stage: Stage) -> Stage
-    requires { Fit task.now.sheet.now task.now.schema.now work.old task.now.size task.now.room stage }
-    ensures { Passes task.now.sheet.now task.now.schema.now task.now.size task.now.room stage work.old result work.new }
+    requires { Fit task.now.alone task.now.sheet.now task.now.schema.now work.old task.now.size task.now.room stage }
+    ensures { Passes task.now.alone task.now.sheet.now task.now.schema.now task.now.size task.now.room stage work.old result work.new }
 {
     let job = stage.job;
     if stage.row + 1 < job.progress.rows {
@@ -63,8 +63,8 @@ fn passed(task: &Task<'_>, work: &mut [u8], stage: Stage) -> Stage
 
 // One turn: record `at` is `old`.
 pub fn step(task: &Task<'_>, work: &mut [u8], stage: Stage, old: Remark) -> Turn
-    requires { Ready task.now.sheet.now task.now.schema.now task.now.size task.now.room stage work.old }
-    ensures { Steps task.now.sheet.now task.now.schema.now task.now.size task.now.room stage old work.old result work.new }
+    requires { Ready task.now.alone task.now.sheet.now task.now.schema.now task.now.size task.now.room stage work.old }
+    ensures { Steps task.now.alone task.now.sheet.now task.now.schema.now task.now.size task.now.room stage old work.old result work.new }
 {
     let room = task.room;
     let row = row_at(work, REMARKS + 16 * stage.row);
@@ -97,8 +97,8 @@ pub fn last(
     out: &mut [u8],
     stage: Result<Stage, Refusal>,
 ) -> Result<Built, Refusal>
-    requires { Reached task.now.sheet.now task.now.schema.now (length out.old) task.now.room stage work.old }
-    ensures { Ends task.now.sheet.now task.now.schema.now task.now.room (length work.old) out.old result out.new work.new }
+    requires { Reached task.now.alone task.now.sheet.now task.now.schema.now (length out.old) task.now.room stage work.old }
+    ensures { Ends task.now.alone task.now.sheet.now task.now.schema.now task.now.room (length work.old) out.old result out.new work.new }
 {
     let stage = stage?;
     let job = stage.job;

@@ -9,7 +9,7 @@ pub returns-in-Err : goal.returns-in-Err
 returns-in-Err c =
     let a = c.args in
     let l = c.last in
-    leaves_none a.sheet.now a.schema.now (length a.out.now) (length a.remarks.now) (length a.work.now) c.in-Err.refusal c.first.new.work a.out.now c.zero_rest.new.list
+    leaves_none a.alone a.sheet.now a.schema.now (length a.out.now) (length a.remarks.now) (length a.work.now) c.in-Err.refusal c.first.new.work a.out.now c.zero_rest.new.list
     c.first.auto.work refl c.in-Err.ensures c.zero_rest.ensures l.result l.new.out l.new.work l.ensures
 
 pub step-turn-requires : goal.step-turn-requires
@@ -28,6 +28,6 @@ pub returns : goal.returns
 returns c =
     let a = c.args in
     let l = c.loop-stage in
-    leaves_all a.sheet.now a.schema.now (length a.out.now) (length a.remarks.now) l.stage l.remarks l.work l.invariant.0
+    leaves_all a.alone a.sheet.now a.schema.now (length a.out.now) (length a.remarks.now) l.stage l.remarks l.work l.invariant.0
     (l.invariant.2.1 (not-false l.stage.last c.loop-stage-test.false))
     c.zero_rest-2.new.list c.zero_rest-2.ensures (length a.work.now) (l.invariant.1 ∙ c.first.auto.work) a.out.now refl c.last-2.result c.last-2.new.out c.last-2.new.work c.last-2.ensures

@@ -6,7 +6,7 @@ use Rattle.pso_write.proofs.build_pso.Given as goal
 
 abbrev pub invariant-loop-stage : goal.invariant-loop-stage
 invariant-loop-stage l =
-    (length l.remarks ≡ l.task.room) × (length l.work ≡ length l.initial.work) × Inv l.sheet l.schema l.task.size l.task.room l.stage l.remarks l.work
+    (length l.remarks ≡ l.task.room) × (length l.work ≡ length l.initial.work) × Inv l.alone l.sheet l.schema l.task.size l.task.room l.stage l.remarks l.work
 
 abbrev pub decreases-loop-stage : goal.decreases-loop-stage
 decreases-loop-stage l = turns l.task.room l.stage

@@ -9,7 +9,7 @@ returns-then-stage c =
     let p = c.requires in
     let a = c.args in
     let s = a.task.now in
-    step_put s.sheet.now s.schema.now s.size s.room a.stage a.old a.work.now p.0 p.1 c.if-stage.true c.row_at-row.result c.row_at-row.ensures
+    step_put s.alone s.sheet.now s.schema.now s.size s.room a.stage a.old a.work.now p.0 p.1 c.if-stage.true c.row_at-row.result c.row_at-row.ensures
     c.passed.result c.passed.new.work c.passed.ensures
 
 pub returns-then-same : goal.returns-then-same
@@ -18,7 +18,7 @@ returns-then-same c =
     let a = c.args in
     let s = a.task.now in
     let f = c.passed-then-same in
-    step_found s.sheet.now s.schema.now s.size s.room a.stage a.old a.work.now p.0 p.1 c.if-stage.false
+    step_found s.alone s.sheet.now s.schema.now s.size s.room a.stage a.old a.work.now p.0 p.1 c.if-stage.false
     (ap (same_remark a.old) (sym c.row_at-row.ensures) ∙ sym c.same.ensures ∙ c.if-same.true) f.result f.new.work f.ensures
 
 pub returns : goal.returns
@@ -26,5 +26,5 @@ returns c =
     let p = c.requires in
     let a = c.args in
     let s = a.task.now in
-    step_next s.sheet.now s.schema.now s.size s.room a.stage a.old a.work.now p.0 p.1 c.if-stage.false
+    step_next s.alone s.sheet.now s.schema.now s.size s.room a.stage a.old a.work.now p.0 p.1 c.if-stage.false
     (ap (same_remark a.old) (sym c.row_at-row.ensures) ∙ sym c.same.ensures ∙ c.if-same.false) c.seek.result c.seek.ensures

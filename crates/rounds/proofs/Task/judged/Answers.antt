@@ -15,7 +15,7 @@ returns-in-Err c =
     let k = c.in-Err.refusal in
     record {
       value = c.refused.ensures ∙ at_bad s.size st 0 (length_of s.schema.now st.job.opening.round st.job.progress a.bytes.now) k c.in-Err.is;
-      judges = subst (Judges s.schema.now s.size st a.bytes.now) (sym c.refused.ensures) (judge_bad s.schema.now s.size st a.bytes.now k c.in-Err.is);
+      judges = subst (Judges s.alone s.schema.now s.size st a.bytes.now) (sym c.refused.ensures) (judge_bad s.alone s.schema.now s.size st a.bytes.now k c.in-Err.is);
     }
 
 pub returns-then-n-gt16777216 : goal.returns-then-n-gt16777216
@@ -31,13 +31,13 @@ returns-then-n-gt16777216 c =
       | then-n-gt16777216-via-then-n-gt16777216 w ↦
           record {
             value = r ∙ at_huge s.size st n _ x c.in_default.is e.value w.if-n-gt16777216.true;
-            judges = subst (Judges s.schema.now s.size st a.bytes.now) (sym r) (judge_huge s.schema.now s.size st a.bytes.now n x c.in_default.is e.counts w.if-n-gt16777216.true);
+            judges = subst (Judges s.alone s.schema.now s.size st a.bytes.now) (sym r) (judge_huge s.alone s.schema.now s.size st a.bytes.now n x c.in_default.is e.counts w.if-n-gt16777216.true);
           }
       | then-n-gt16777216-via-else-n-gt16777216+then-self-n w ↦
           record {
             value = r ∙ at_past s.size st n _ x c.in_default.is e.value w.if-self-n.true;
-            judges = subst (Judges s.schema.now s.size st a.bytes.now) (sym r)
-                (judge_long s.schema.now s.size st a.bytes.now n x c.in_default.is e.counts (omega arith) w.if-self-n.true);
+            judges = subst (Judges s.alone s.schema.now s.size st a.bytes.now) (sym r)
+                (judge_long s.alone s.schema.now s.size st a.bytes.now n x c.in_default.is e.counts (omega arith) w.if-self-n.true);
           }
     ]
 
@@ -51,5 +51,5 @@ returns c =
     let e = rw (c.requires.round, c.requires.progress) at c.file_length-n.ensures in
     record {
       value = at_end_law s.size st n _ x c.in_default.is e.value (omega arith) c.if-self-n.false;
-      judges = judge_fits s.schema.now s.size st a.bytes.now n x c.in_default.is e.counts (omega arith) c.if-self-n.false;
+      judges = judge_fits s.alone s.schema.now s.size st a.bytes.now n x c.in_default.is e.counts (omega arith) c.if-self-n.false;
     }

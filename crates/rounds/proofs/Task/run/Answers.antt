@@ -16,7 +16,7 @@ returns-in_err-write_struct c =
     rw (x.1, x.2)
     record {
       same = e.same;
-      did = root_refused g.self.now.sheet.now g.self.now.schema.now a.round (length a.bytes.now) a.bytes.now d (a.safe.small, a.safe.room) c.requires.clear
+      did = root_refused g.self.now.alone g.self.now.sheet.now g.self.now.schema.now a.round (length a.bytes.now) a.bytes.now d (a.safe.small, a.safe.room) c.requires.clear
           (λ S q. root_def_law g.self.now.schema.now S g.opening.now.name g.opening.now.place q c.requires.rooted.found) _ _ _ (rw (c.def_at-root.ensures, c.requires.begun) at e.did);
     }
 
@@ -26,9 +26,9 @@ returns c =
     let a = g.area.now in
     let d = defined_at g.self.now.schema.now g.opening.now.name g.opening.now.place in
     let e = c.in_ok-write_struct.ensures in
-    let f = c.lay.ensures in
+    let f = c.lay_item.ensures in
     record {
       same = same_then e.same f.same;
-      did = root_laid g.self.now.sheet.now g.self.now.schema.now a.round (length a.bytes.now) a.bytes.now d (a.safe.small, a.safe.room) c.requires.clear
+      did = root_laid g.self.now.alone g.self.now.sheet.now g.self.now.schema.now a.round (length a.bytes.now) a.bytes.now d (a.safe.small, a.safe.room) c.requires.clear
           (λ S q. root_def_law g.self.now.schema.now S g.opening.now.name g.opening.now.place q c.requires.rooted.found) _ _ _ _ (rw (c.def_at-root.ensures, c.requires.begun) at e.did) (step_then e.same (rw c.def_at-root.ensures at f));
     }

@@ -9,11 +9,11 @@ returns-then-job-eq0 c =
     let s = c.args.self.now in
     let a = c.begin-area in
     let r = c.run-outcome in
-    take_none s.sheet.now s.schema.now s.size s.room c.args.opening c.args.count a.result r.new.area r.result r.ensures a.ensures.round _ (search rules) c.if-job-eq0.true c.judged.result c.judged.ensures.judges
+    take_none s.alone s.sheet.now s.schema.now s.size s.room c.args.opening c.args.count a.result r.new.area r.result r.ensures a.ensures.round _ (search rules) c.if-job-eq0.true c.judged.result c.judged.ensures.judges
 
 pub returns : goal.returns
 returns c =
     let s = c.args.self.now in
     let a = c.begin-area in
     let r = c.run-outcome in
-    take_some s.sheet.now s.schema.now s.size s.room c.args.opening c.args.count a.result r.new.area r.result r.ensures a.ensures.round _ (search rules) (omega arith) c.seek.result c.seek.ensures
+    take_some s.alone s.sheet.now s.schema.now s.size s.room c.args.opening c.args.count a.result r.new.area r.result r.ensures a.ensures.round _ (search rules) (omega arith) c.seek.result c.seek.ensures
