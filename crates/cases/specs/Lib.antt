@@ -1,4 +1,4 @@
--- Worked cases, closed by evaluation. Made, Laws, Read, Roads, RoadLaws, Decimals and Texts are written by
+-- Worked cases, closed by evaluation. Made, Laws, Read, Roads, RoadLaws, Decimals, Ways, WayLaws and Texts are written by
 -- `differential/run record cases 4242 crates/cases/specs`, then `rt tidy`.
 pub mod Check
 pub mod Records
@@ -35,3 +35,5 @@ pub mod Roads00
 pub mod RoadLaws00
 pub mod Decimals00
 pub mod Decimals01
+pub mod Ways00
+pub mod WayLaws00

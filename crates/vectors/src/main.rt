@@ -1,7 +1,7 @@
 // Replays recorded answers: standard input has cases one after another (differential/src/record.rs says how they were made and
 // how they lie), sheets and schemas with what `build_pso` gives and files with what `parse_pso` gives, as the reference has it, and
-// for refusals outside its domain the model of differential/. A line for each says what came out, and whether it is the recorded one
-// to the last byte: file, remarks, the rest of the lent areas.
+// for refusals outside its domain, and with the root alone, the model of differential/. A line for each says what came out, and
+// whether it is the recorded one to the last byte: file, remarks, the rest of the lent areas.
 #![tactic(auto)]
 
 ghost use Rattle.std.specs.Prelude.{◌≡◌, ◌≤◌, ◌<◌, length, take, IfSome};
@@ -11,7 +11,7 @@ ghost use Rattle.sandvurek.specs.Exports.{BuildIs};
 use judge::{NOISE, agrees, is_reading};
 use layout::Remark;
 use numbers::words::{part_from, part_to, read};
-use sandvurek::{Outcome, Reading, sandvurek_build, sandvurek_read};
+use sandvurek::{Outcome, Reading, sandvurek_build, sandvurek_build_with, sandvurek_read};
 use std::io;
 use std::io::Read;
 
@@ -30,8 +30,9 @@ fn keep(outcome: Outcome, list: [Remark; 64]) -> Kept
     Kept { outcome, list }
 }
 
-// Builds with n of the records lent.
+// Builds with n of the records lent, with the root alone or not.
 fn pack(
+    alone: bool,
     sheet: &[u8],
     schema: &[u8],
     work: &mut [u8],
@@ -40,10 +41,14 @@ fn pack(
     mut list: [Remark; 64],
 ) -> Kept
     requires { n ≤ 64 }
-    ensures { BuildIs (build_pso sheet.now schema.now (length work.old) out.old n)
+    ensures { BuildIs (build_pso alone sheet.now schema.now (length work.old) out.old n)
         result.outcome out.new (take n result.list) work.new }
 {
-    let outcome = sandvurek_build(sheet, schema, work, out, &mut list[..n]);
+    let outcome = if alone {
+        sandvurek_build_with(1, sheet, schema, work, out, &mut list[..n])
+    } else {
+        sandvurek_build(sheet, schema, work, out, &mut list[..n])
+    };
     keep(outcome, list)
 }
 
@@ -66,18 +71,21 @@ fn build_case(
     if 64 < n {
         return print!(rt; "case {number}");
     }
+    // A building is of kind 0, or of kind 2 with the root alone.
+    let alone = read::<u32>(row, 4) == 2;
     let sheet = part_to(part_from(row, 40), a);
     let schema = part_to(part_from(row, 40 + a), b);
     work.fill(NOISE);
     out.fill(NOISE);
-    let Kept { outcome, list } = pack(sheet, schema, work, out, n, judge::noises());
+    let Kept { outcome, list } = pack(alone, sheet, schema, work, out, n, judge::noises());
     let word = word(agrees(row, work, out, n, outcome, list));
     let Outcome {
         code,
         length,
         remarks,
     } = outcome;
-    println!(rt; "case {number}: code {code}, {length} bytes, {remarks} remarks, {word}")
+    let way = if alone { ", root alone" } else { "" };
+    println!(rt; "case {number}{way}: code {code}, {length} bytes, {remarks} remarks, {word}")
 }
 
 // A case for the reader.
@@ -165,7 +173,7 @@ fn read_all(rt: &impl Input, space: &mut [u8]) -> io::Result<usize> {
 // Reads the cases, and replays them. `space` comes as an array and is cut here: `cases` says why.
 fn run(
     rt: &(impl Input + Print),
-    space: &mut [u8; 1179648],
+    space: &mut [u8; 1376256],
     work: &mut [u8; 4325376],
     out: &mut [u8; 2048],
 ) -> io::Result<()> {
@@ -173,10 +181,10 @@ fn run(
     cases(rt, part_to(space, n), work, out)
 }
 
-// The input has two sheets of 16,384 rows, the work area 4 MB, for refusal 10. Arrays and no Vec, here and in coerce_rows: a Vec rests on the
-// heap's functions, and nothing more is assumed for a program that checks the library.
+// The input has two sheets of 16,384 rows and two schemas of 4,095 definitions, the work area 4 MB, for refusal 10. Arrays and no Vec, here and in
+// coerce_rows: a Vec rests on the heap's functions, and nothing more is assumed for a program that checks the library.
 fn main(rt: HostRuntime) -> io::Result<()> {
-    let mut space = [0u8; 1179648];
+    let mut space = [0u8; 1376256];
     let mut work = [0u8; 4325376];
     let mut out = [0u8; 2048];
     run(&rt, &mut space, &mut work, &mut out)
