@@ -10,6 +10,7 @@ use crate::model::schema::Schema;
 use crate::model::state::Remark;
 use crate::model::{build, Outcome, Pack, GENEROUS};
 use crate::roads;
+use crate::root_alone;
 use crate::select::{choose, Choice, Shown};
 use crate::stats::Stats;
 use std::fmt::Write;
@@ -21,7 +22,7 @@ const PER_MADE: usize = 20;
 const PER_LAWS: usize = 10;
 const PER_READ: usize = 20;
 
-const HEAD: &str = "use Rattle.std.specs.Prelude.{ℕ, ◌≡◌, refl, true, List, [], ◌∷◌, ◌++◌}
+const HEAD: &str = "use Rattle.std.specs.Prelude.{ℕ, ◌≡◌, refl, true, false, List, [], ◌∷◌, ◌++◌}
 use Rattle.numbers.specs.Words.{Bytes, words}
 use Rattle.numbers.specs.Result.{Result, ok, refused, map_result}
 use Rattle.pso.specs.Reader.{Pso, parse_pso}
@@ -65,7 +66,7 @@ fn made(n: usize, case: &Case, outcome: &Outcome) -> String {
         Err(code) => format!("refused {code}"),
     };
     let l = &case.limits;
-    write!(s, "case{n} : build T{n} S{n} {} {} {} ≡ {answer}\nunfolding Eval.evaluated T{n} S{n}\ncase{n} = refl\n", l.work, l.out, l.records).unwrap();
+    write!(s, "case{n} : build {} T{n} S{n} {} {} {} ≡ {answer}\nunfolding Eval.evaluated T{n} S{n}\ncase{n} = refl\n", case.alone, l.work, l.out, l.records).unwrap();
     s
 }
 
@@ -78,11 +79,12 @@ fn laws(n: usize, case: &Case, pack: &Pack, again: &Pack) -> String {
     let entries = Schema::read(&case.schema).map_or(0, |x| x.index_entries());
     let work = work_for(entries, pack.charge);
     let records = pack.remarks.len().max(again.remarks.len());
-    let laid = format!("layout T{n} S{n} {work} {records}");
+    let way = case.alone;
+    let laid = format!("layout {way} T{n} S{n} {work} {records}");
     write!(s, "reads{n} : parse_pso F{n} ≡ map_result read_back ({laid})\nunfolding Eval.evaluated T{n} S{n} F{n}\nreads{n} = refl\n\n").unwrap();
     write!(s, "holds{n} : map_result Check.holds ({laid}) ≡ ok true\nunfolding Eval.evaluated Check.evaluated T{n} S{n}\nholds{n} = refl\n\n").unwrap();
     let answer = format!("ok (record {{ file = F{n}; remarks = {} }})", remarks(&again.remarks));
-    write!(s, "rebuilds{n} : build T{n} F{n} {work} {} {records} ≡ {answer}\nunfolding Eval.evaluated T{n} F{n}\nrebuilds{n} = refl\n", pack.file.len()).unwrap();
+    write!(s, "rebuilds{n} : build {way} T{n} F{n} {work} {} {records} ≡ {answer}\nunfolding Eval.evaluated T{n} F{n}\nrebuilds{n} = refl\n", pack.file.len()).unwrap();
     s
 }
 
@@ -138,7 +140,7 @@ fn choose_laws(seed: u64, count: usize) -> Vec<String> {
         }
         let (case, generous, _) = case_of(seed, n, Size::Tiny);
         let Ok(pack) = &generous.answer else { continue };
-        let again = build(&case.sheet, &pack.file, &GENEROUS);
+        let again = build(false, &case.sheet, &pack.file, &GENEROUS);
         let Ok(again) = &again.answer else { continue };
         let mut list = generous.hits.features();
         list.push(if again.remarks.len() > pack.remarks.len() { MORE } else { SAME });
@@ -172,27 +174,40 @@ fn choose_reads(seed: u64, count: usize) -> Vec<String> {
 
 /// The answer of a case that is the same for every seed.
 fn answer((n, f): (usize, &Fixed)) -> String {
-    format!("-- {}\n{}", f.what, made(n, &f.case, &build(&f.case.sheet, &f.case.schema, &f.case.limits)))
+    format!("-- {}\n{}", f.what, made(n, &f.case, &f.case.within(&f.case.limits)))
 }
 
-/// Chains past 32 structures, demand 3 on those that are built, and decimals as text.
+/// Demand 3 of a case that is the same for every seed.
+fn law((n, f): (usize, &Fixed)) -> String {
+    let pack = f.generous.answer.as_ref().expect("built");
+    let again = build(f.case.alone, &f.case.sheet, &pack.file, &GENEROUS).answer.expect("held against the reference");
+    format!("-- {}\n{}", f.what, laws(n, &f.case, pack, &again))
+}
+
+/// Chains past 32 structures, demand 3 on those that are built, decimals as text, and both ways of building.
 fn fixed(dir: &Path, modules: &mut Vec<String>) -> io::Result<()> {
     let (built, others) = (roads::built(), roads::others());
     let made: Vec<String> = built.iter().chain(&others).enumerate().map(answer).collect();
     write_files(dir, "Roads", "Roads", PER_MADE, &made, modules)?;
-    let law = |(n, r): (usize, &Fixed)| {
-        let pack = r.generous.answer.as_ref().expect("built");
-        let again = build(&r.case.sheet, &pack.file, &GENEROUS).answer.expect("held against the reference");
-        format!("-- {}\n{}", r.what, laws(n, &r.case, pack, &again))
-    };
     let laws: Vec<String> = built.iter().enumerate().map(law).collect();
     write_files(dir, "RoadLaws", "Demand 3 on roads", PER_LAWS, &laws, modules)?;
     println!("{} roads, {} of demand 3", made.len(), laws.len());
     let typed: Vec<String> = decimals::all().iter().enumerate().map(answer).collect();
     write_files(dir, "Decimals", "Decimals as text", PER_MADE, &typed, modules)?;
     println!("{} sheets with decimals as text", typed.len());
+    let both = root_alone::small();
+    let made: Vec<String> = both.iter().enumerate().map(answer).collect();
+    write_files(dir, "Ways", "Both ways", PER_MADE, &made, modules)?;
+    // Those with a shorter output come last, and give 13.
+    let alone = both.iter().filter(|f| f.case.alone && f.case.within(&f.case.limits).code() == 0);
+    let laws: Vec<String> = alone.enumerate().map(law).collect();
+    write_files(dir, "WayLaws", "Demand 3 with the root alone:", PER_LAWS, &laws, modules)?;
+    println!("{} cases of both ways, {} of demand 3", made.len(), laws.len());
     Ok(())
 }
+
+/// The names of the files, each with a number behind.
+const WRITTEN: [&str; 8] = ["Made", "Laws", "Read", "Roads", "RoadLaws", "Decimals", "Ways", "WayLaws"];
 
 /// Writes the files into the folder `specs` of the crate, and the crate's list of modules.
 pub fn cases(seed: u64, builds: usize, laws: usize, reads: usize, dir: &str) -> io::Result<()> {
@@ -200,7 +215,7 @@ pub fn cases(seed: u64, builds: usize, laws: usize, reads: usize, dir: &str) -> 
     for f in fs::read_dir(dir)? {
         let path = f?.path();
         let name = path.file_name().unwrap().to_string_lossy().to_string();
-        if ["Made", "Laws", "Read", "Roads", "RoadLaws", "Decimals"].iter().any(|p| name.starts_with(p) && name[p.len()..].starts_with(|c: char| c.is_ascii_digit())) {
+        if WRITTEN.iter().any(|p| name.starts_with(p) && name[p.len()..].starts_with(|c: char| c.is_ascii_digit())) {
             fs::remove_file(path)?;
         }
     }
@@ -225,5 +240,5 @@ pub fn cases(seed: u64, builds: usize, laws: usize, reads: usize, dir: &str) -> 
     fixed(dir, &mut modules)?;
     fs::write(dir.join("Texts.antt"), crate::antt_texts::texts(seed + 3))?;
     let list: String = modules.iter().map(|m| format!("pub mod {m}\n")).collect();
-    fs::write(dir.join("Lib.antt"), format!("-- Worked cases, closed by evaluation. Made, Laws, Read, Roads, RoadLaws, Decimals and Texts are written by\n-- `differential/run record cases {seed} crates/cases/specs`, then `rt tidy`.\n{list}"))
+    fs::write(dir.join("Lib.antt"), format!("-- Worked cases, closed by evaluation. {} and Texts are written by\n-- `differential/run record cases {seed} crates/cases/specs`, then `rt tidy`.\n{list}", WRITTEN.join(", ")))
 }

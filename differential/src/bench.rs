@@ -100,7 +100,7 @@ pub fn bench() {
     println!("|---|---|---|---|---|---|---|---|---|---|---|");
     let (mut lent, mut checked) = (None, Vec::new());
     for s in scenes() {
-        let outcome = build(&s.sheet, &s.schema, &GENEROUS);
+        let outcome = build(false, &s.sheet, &s.schema, &GENEROUS);
         let entries = outcome.index_entries.unwrap_or(0);
         let pack = outcome.answer.unwrap_or_else(|n| panic!("{} is refused with {n}", s.name));
         let (file, records) = (pack.file.len(), pack.remarks.len());

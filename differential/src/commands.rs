@@ -17,12 +17,12 @@ use std::io::{self, BufReader, BufWriter, Write};
 const HELP: &str = "differential/run [SEED [COUNT]] [options]     compares COUNT cases and a third as many files (default: 1 100000)
 differential/run files SEED COUNT             compares COUNT files for the reader
 differential/run sheets SEED COUNT            compares the check of COUNT sheets
-differential/run stream SEED COUNT FILE       writes requests for a program that is run by itself
+differential/run stream SEED COUNT FILE       writes requests for a program that is run by itself, two for each case: in both ways
 differential/run expect REQUESTS REPLIES      writes the replies that the model expects
 differential/run judge REQUESTS REPLIES       compares replies with what the model expects
 differential/run serve                        answers requests by the model
 differential/run case SEED NUMBER             prints a case
-differential/run try SHEET SCHEMA [WORK OUT RECORDS]   one case, as hexadecimal digits
+differential/run try SHEET SCHEMA [WORK OUT RECORDS]   one case, as hexadecimal digits, in both ways
 differential/run read FILE                    one file for the reader, as hexadecimal digits
 differential/run record vectors SEED COUNT DIR     cases with their replies, for a program that replays them
 differential/run record cases SEED DIR [BUILDS LAWS READS]   cases as theorems, into crates/cases/specs
@@ -137,12 +137,12 @@ pub fn case_of(seed: u64, number: u64, size: Size) -> (Case, Outcome, usize) {
     let mut rng = Rng::of(seed, number);
     loop {
         let (family, sheet, schema) = gen::inputs(&mut rng, size);
-        let generous = build(&sheet, &schema, &GENEROUS);
+        let generous = build(false, &sheet, &schema, &GENEROUS);
         if size != Size::Full && generous.charge > SMALL_CHARGE {
             continue;
         }
         let limits = gen::limits::limits(&mut rng, &generous, size);
-        return (Case { sheet, schema, limits }, generous, family);
+        return (Case { alone: false, sheet, schema, limits }, generous, family);
     }
 }
 
@@ -219,32 +219,30 @@ fn compare_all(o: &Options, seed: u64, count: u64) -> Result<i32, String> {
 pub fn report(case: &Case, subject: &mut Option<Box<dyn Subject>>) {
     let mut last = String::new();
     let by_itself = |c: &Case, subject: &mut Option<Box<dyn Subject>>| {
-        let outcome = build(&c.sheet, &c.schema, &c.limits);
-        subject.as_mut().filter(|s| s.builds()).map_or(Ok(()), |s| compare::against_subject(c, &outcome, s.as_mut()))
+        let Some(s) = subject.as_mut().filter(|s| s.builds()) else { return Ok(()) };
+        let mut ways = [c.way(false), c.way(true)].into_iter();
+        ways.try_for_each(|c| compare::against_subject(&c, &c.within(&c.limits), s.as_mut()))
     };
-    // Where the call by itself fails, the other checks are left out.
-    let alone = by_itself(case, subject).is_err();
+    // Where a call by itself fails, the other checks are left out.
+    let calls = by_itself(case, subject).is_err();
     let mut fails = |c: &Case| {
-        let answer = if alone {
-            by_itself(c, subject)
-        } else {
-            compare::check(c, &build(&c.sheet, &c.schema, &GENEROUS), subject, &mut Stats::new())
-        };
+        let answer = if calls { by_itself(c, subject) } else { compare::check(c, &c.within(&GENEROUS), subject, &mut Stats::new()) };
         answer.map_err(|e| last = e).is_err()
     };
     let small = shrink::shrink(case, &mut fails);
     let l = &small.limits;
     println!("smallest found: {last}");
     println!("sheet {}\nschema {}\nwork {} out {} records {}", hex(&small.sheet), hex(&small.schema), l.work, l.out, l.records);
-    let outcome = build(&small.sheet, &small.schema, l);
     print!("expected ");
-    show(&outcome);
+    show(&small);
 }
 
 fn write_stream(seed: u64, count: u64, size: Size, path: &str) -> io::Result<()> {
     let mut out = BufWriter::new(File::create(path)?);
     for n in 0..count {
-        stream::put_request(&mut out, &case_of(seed, n, size).0)?;
+        let (case, ..) = case_of(seed, n, size);
+        stream::put_request(&mut out, &case)?;
+        stream::put_request(&mut out, &case.way(true))?;
     }
     out.flush()
 }
@@ -253,7 +251,7 @@ fn expect(requests: &str, replies: &str) -> io::Result<()> {
     let mut from = BufReader::new(File::open(requests)?);
     let mut out = BufWriter::new(File::create(replies)?);
     while let Some(case) = stream::request(&mut from)? {
-        let outcome = build(&case.sheet, &case.schema, &case.limits);
+        let outcome = case.within(&case.limits);
         stream::put_reply(&mut out, &subject::expected(&outcome))?;
     }
     out.flush()
@@ -265,7 +263,7 @@ fn judge(requests: &str, replies: &str) -> io::Result<i32> {
     let mut n = 0;
     let mut codes = [0u64; 19];
     while let Some(case) = stream::request(&mut from)? {
-        let outcome = build(&case.sheet, &case.schema, &case.limits);
+        let outcome = case.within(&case.limits);
         let reply = match stream::reply(&mut given) {
             Ok(r) => r,
             Err(e) => {
@@ -288,7 +286,7 @@ fn judge(requests: &str, replies: &str) -> io::Result<i32> {
 fn serve() -> io::Result<()> {
     let (mut from, mut out) = (BufReader::new(io::stdin().lock()), BufWriter::new(io::stdout().lock()));
     while let Some(case) = stream::request(&mut from)? {
-        let outcome = build(&case.sheet, &case.schema, &case.limits);
+        let outcome = case.within(&case.limits);
         stream::put_reply(&mut out, &subject::expected(&outcome))?;
         out.flush()?;
     }
@@ -299,14 +297,14 @@ fn serve() -> io::Result<()> {
 fn try_case(sheet: &str, schema: &str, rest: &[&str]) -> Result<i32, String> {
     let bytes = |s: &str| unhex(s).ok_or("no hexadecimal digits".to_string());
     let (sheet, schema) = (bytes(sheet)?, bytes(schema)?);
-    let generous = build(&sheet, &schema, &GENEROUS);
+    let generous = build(false, &sheet, &schema, &GENEROUS);
     let limits = match rest {
         [work, out, records] => Limits { work: number(work)?, out: number(out)?, records: number(records)? },
         _ => Limits { work: gen::limits::work_for(generous.index_entries.unwrap_or(0), MAX_CHARGE), out: 1 << 20, records: 1 << 10 },
     };
-    let case = Case { sheet, schema, limits };
+    let case = Case { alone: false, sheet, schema, limits };
     println!("model: code {}, charge {}, {} remarks", generous.code(), generous.charge, generous.remarks);
-    show(&build(&case.sheet, &case.schema, &case.limits));
+    show(&case);
     let (mut subject, mut stats) = (linked(), Stats::new());
     let answer = compare::check(&case, &generous, &mut subject, &mut stats);
     stats.explained.keys().for_each(|k| println!("intended difference: {k}"));
@@ -329,18 +327,22 @@ fn try_file(file: &str) -> Result<i32, String> {
     Ok(0)
 }
 
-fn show(outcome: &Outcome) {
-    match &outcome.answer {
-        Ok(p) => println!("file {}\nremarks {:X?}", hex(&p.file), p.remarks),
-        Err(n) => println!("refusal {n}"),
+/// What the model gives in either way.
+fn show(case: &Case) {
+    let answers = [false, true].map(|alone| case.way(alone).within(&case.limits).answer);
+    for (answer, way) in answers.iter().zip(["", "root alone: "]) {
+        match answer {
+            Ok(p) => println!("{way}file {}\n{way}remarks {:X?}", hex(&p.file), p.remarks),
+            Err(n) => println!("{way}refusal {n}"),
+        }
     }
 }
 
 fn print_case(seed: u64, n: u64, size: Size) -> Result<i32, String> {
     let (case, generous, family) = case_of(seed, n, size);
-    let limited = build(&case.sheet, &case.schema, &case.limits);
+    let limited = case.within(&case.limits);
     println!("{}\nsheet {}\nschema {}", gen::FAMILIES[family].name, hex(&case.sheet), hex(&case.schema));
     println!("{:?}\ncode {} with generous limits, {} with these", case.limits, generous.code(), limited.code());
-    show(&limited);
+    show(&case);
     Ok(0)
 }

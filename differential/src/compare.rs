@@ -1,31 +1,39 @@
-//! One case: model against reference, subject against model, demand 3.
+//! One case: model against reference, subject against model, demand 3; in both ways.
 use crate::bytes::{hex, push_u32, u32_at};
 use crate::gen::Case;
 use crate::model::buffer::Leads;
 use crate::model::reader::{self, Reading};
 use crate::model::number::{f32_of_decimal, i64_of_decimal};
-use crate::model::schema::{next_section, Definitions, PMAP, PSCH, PSIN};
+use crate::model::schema::{next_section, Definitions, Schema, PMAP, PSCH, PSIN};
 use crate::model::sheet::{Sheet, STR};
+use crate::model::state::Remark;
 use crate::model::text::{decimal, parses_float, parts, trim};
-use crate::model::{build, Limits, Outcome, Pack, GENEROUS};
+use crate::model::{Limits, Outcome, Pack, GENEROUS};
 use crate::reference_side::{self as reference, Answer};
 use crate::stats::Stats;
 use crate::subject::{difference, expected, Subject};
+use crate::ways;
 
-/// All checks of a case; what differs, if anything.
+/// All checks of a case of the ordinary way, and of the same with the root alone; what differs, if anything.
 pub fn check(case: &Case, generous: &Outcome, subject: &mut Option<Box<dyn Subject>>, stats: &mut Stats) -> Result<(), String> {
-    against_reference(case, generous, stats).map_err(|e| format!("model and reference: {e}"))?;
+    let rust = against_reference(case, generous, stats).map_err(|e| format!("model and reference: {e}"))?;
     texts(case, generous.code(), stats)?;
-    let limited = build(&case.sheet, &case.schema, &case.limits);
+    let limited = case.within(&case.limits);
     stats.outcome(generous, &limited);
-    consistent(generous, &limited)?;
+    one_way(case, generous, &limited, subject, stats)?;
+    ways::check(&case.way(true), [generous, &limited], rust.as_deref(), subject, stats).map_err(|e| format!("root alone: {e}"))
+}
+
+/// What is checked in either way.
+pub fn one_way(case: &Case, generous: &Outcome, limited: &Outcome, subject: &mut Option<Box<dyn Subject>>, stats: &mut Stats) -> Result<(), String> {
+    consistent(generous, limited)?;
     if let Some(s) = subject.as_mut().filter(|s| s.builds()) {
-        against_subject(case, &limited, s.as_mut())?;
-        stats.tested += 1;
+        against_subject(case, limited, s.as_mut())?;
+        stats.tested[case.alone as usize] += 1;
     }
     if let Ok(pack) = &generous.answer {
         demand3(case, pack, subject, stats).map_err(|e| format!("demand 3: {e}"))?;
-        stats.demand3 += 1;
+        stats.demand3[case.alone as usize] += 1;
     }
     Ok(())
 }
@@ -91,21 +99,22 @@ fn text(t: &[u8], stats: &mut Stats) -> Result<bool, String> {
     Ok(false)
 }
 
-fn against_reference(case: &Case, outcome: &Outcome, stats: &mut Stats) -> Result<(), String> {
+/// The reference's file, where it builds one.
+fn against_reference(case: &Case, outcome: &Outcome, stats: &mut Stats) -> Result<Option<Vec<u8>>, String> {
     let code = outcome.code();
     if code == 1 || code == 2 {
-        return Ok(());
+        return Ok(None);
     }
     stats.compared += u64::from(code < 8);
     if code == 3 {
         let tree = reference::tree(&case.sheet);
         return match reference::build(&tree, &Default::default()) {
-            Answer::Refused(m) if m.contains("must be a structure") => Ok(()),
+            Answer::Refused(m) if m.contains("must be a structure") => Ok(None),
             _ => Err("3, and the reference takes the root".into()),
         };
     }
     if (4..=6).contains(&code) {
-        return schema_refused(case, code, stats);
+        return schema_refused(case, code, stats).map(|()| None);
     }
     let schema = match reference::schema(&case.schema) {
         Answer::Gave(s) => s,
@@ -113,12 +122,12 @@ fn against_reference(case: &Case, outcome: &Outcome, stats: &mut Stats) -> Resul
         Answer::Panicked => return Err(format!("code {code}, and from_pso panics")),
     };
     if (8..=13).contains(&code) {
-        return Ok(());
+        return Ok(None);
     }
     let tree = reference::tree(&case.sheet);
     match (reference::build(&tree, &schema), &outcome.answer) {
-        (Answer::Gave((file, messages)), Ok(pack)) => same_pack(&file, &messages, pack),
-        (Answer::Refused(m), Err(7)) if m.contains("no PSO schema for the root structure") => Ok(()),
+        (Answer::Gave((file, messages)), Ok(pack)) => same_pack(&file, &messages, pack).map(|()| Some(file)),
+        (Answer::Refused(m), Err(7)) if m.contains("no PSO schema for the root structure") => Ok(None),
         (Answer::Panicked, _) => Err(format!("code {code}, and build_pso panics")),
         (Answer::Refused(m), _) => Err(format!("code {code}, and build_pso refuses: {m}")),
         (Answer::Gave(_), _) => Err(format!("code {code}, and build_pso succeeds")),
@@ -126,11 +135,15 @@ fn against_reference(case: &Case, outcome: &Outcome, stats: &mut Stats) -> Resul
 }
 
 fn same_pack(file: &[u8], messages: &[String], pack: &Pack) -> Result<(), String> {
+    same_answer(file, &reference::remarks(messages)?, pack)
+}
+
+/// Whether a pack has this file and these remarks.
+pub fn same_answer(file: &[u8], remarks: &[Remark], pack: &Pack) -> Result<(), String> {
     if file != pack.file {
         let at = file.iter().zip(&pack.file).position(|(a, b)| a != b);
         return Err(format!("files differ: {} and {} bytes, first at {at:?}", pack.file.len(), file.len()));
     }
-    let remarks = reference::remarks(messages)?;
     if remarks != pack.remarks {
         return Err(format!("remarks differ: {:X?} and {:X?}", pack.remarks, remarks));
     }
@@ -243,26 +256,31 @@ fn slots(pack: &Pack, stats: &mut Stats) -> Result<(), String> {
 
 /// Built from its own schema, with no more work and output than the first building needs.
 fn rebuild(case: &Case, pack: &Pack, subject: &mut Option<Box<dyn Subject>>, stats: &mut Stats) -> Result<(), String> {
-    let free = build(&case.sheet, &pack.file, &GENEROUS);
+    let own = Case { schema: pack.file.clone(), ..case.clone() };
+    let free = own.within(&GENEROUS);
     let again = free.answer.as_ref().map_err(|n| format!("the rebuild is refused with {n}"))?;
     if again.file != pack.file {
         return Err("the rebuilt file differs".into());
     }
-    let entries = crate::model::schema::Schema::read(&case.schema).map_or(0, |s| s.index_entries());
+    let entries = Schema::read(&case.schema).map_or(0, |s| s.index_entries());
     let work = crate::gen::limits::work_for(entries, pack.charge);
     let limits = Limits { work, out: pack.file.len() as u64, records: again.remarks.len() as u64 };
-    let tight = Case { sheet: case.sheet.clone(), schema: pack.file.clone(), limits };
-    let outcome = build(&tight.sheet, &tight.schema, &limits);
+    let tight = Case { limits, ..own };
+    let outcome = tight.within(&limits);
     if outcome.answer.as_ref().map_or(true, |p| p.file != pack.file) {
         return Err(format!("the rebuild with the same lengths gives {}", outcome.code()));
     }
-    if again.remarks.len() > pack.remarks.len() {
+    if !case.alone && again.remarks.len() > pack.remarks.len() {
         stats.explain("the rebuild has more remarks", case.sheet.len() + case.schema.len(), || {
             format!("sheet {} schema {}", hex(&case.sheet), hex(&case.schema))
         });
     }
     if let Some(s) = subject.as_mut().filter(|s| s.builds()) {
         against_subject(&tight, &outcome, s.as_mut()).map_err(|e| format!("rebuild: {e}"))?;
+    }
+    if case.alone {
+        // The reference doesn't build in this way: what it has to say is asked in `ways`.
+        return Ok(());
     }
     let tree = reference::tree(&case.sheet);
     match reference::schema(&pack.file) {

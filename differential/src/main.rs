@@ -1,4 +1,4 @@
-//! Holds the packer and the reader against the reference and against a model of document 01 with requests 2.1 and 2.6.
+//! Holds the packer and the reader against the reference and against a model of document 01 with requests 2.1, 2.6 and 2.10.
 mod antt;
 mod antt_texts;
 mod bench;
@@ -13,6 +13,7 @@ mod model;
 mod record;
 mod reference_side;
 mod rng;
+mod root_alone;
 mod roads;
 mod row_numbers;
 mod scene;
@@ -21,6 +22,7 @@ mod sheets;
 mod shrink;
 mod stats;
 mod subject;
+mod ways;
 
 fn main() {
     let words: Vec<String> = std::env::args().skip(1).collect();

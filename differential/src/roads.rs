@@ -6,14 +6,14 @@ use crate::gen::tree::{Tree, NULL_LEAF};
 use crate::model::schema::Member;
 use crate::model::sheet::U32;
 use crate::model::write::ARRAYINFO;
-use crate::model::{build, GENEROUS};
+use crate::model::GENEROUS;
 use Link::*;
 
 /// The same with a byte less of work.
 fn shorter(what: &str, road: &Road) -> Road {
     let mut case = road.case.clone();
     case.limits.work -= 1;
-    let generous = build(&case.sheet, &case.schema, &GENEROUS);
+    let generous = case.within(&GENEROUS);
     Road { what: what.to_string(), case, generous }
 }
 

@@ -4,7 +4,7 @@ use crate::compare;
 use crate::gen::limits::work_for;
 use crate::gen::{Case, Size};
 use crate::model::schema::Schema;
-use crate::model::{build, Outcome};
+use crate::model::Outcome;
 use crate::stats::Stats;
 use std::collections::HashMap;
 
@@ -47,7 +47,7 @@ const TYPES: u32 = 101_000;
 
 /// What a case shows: branches, values, refusals, remarks, exact limits, types and subtypes of members.
 pub fn things(case: &Case, generous: &Outcome) -> (Outcome, Vec<u32>) {
-    let limited = build(&case.sheet, &case.schema, &case.limits);
+    let limited = case.within(&case.limits);
     let mut out = limited.hits.features();
     out.push(CODE + limited.code());
     if let Ok(p) = &limited.answer {

@@ -3,7 +3,7 @@ use crate::commands::report;
 use crate::compare::check;
 use crate::gen::sheets::{sheet, CHANGES};
 use crate::gen::Case;
-use crate::model::{build, Limits, GENEROUS};
+use crate::model::{Limits, GENEROUS};
 use crate::rng::Rng;
 use crate::stats::{codes, Stats};
 use crate::subject::Subject;
@@ -15,8 +15,8 @@ pub fn compare(seed: u64, numbers: Range<u64>, subject: &mut Option<Box<dyn Subj
     let mut answers = [[0; 19]; CHANGES.len()];
     for n in numbers {
         let (change, sheet) = sheet(&mut Rng::of(seed ^ 0x5EED_54EE, n));
-        let case = Case { sheet, schema: Vec::new(), limits: Limits { work: 0, out: 0, records: 0 } };
-        let generous = build(&case.sheet, &case.schema, &GENEROUS);
+        let case = Case { alone: false, sheet, schema: Vec::new(), limits: Limits { work: 0, out: 0, records: 0 } };
+        let generous = case.within(&GENEROUS);
         answers[change][generous.code() as usize] += 1;
         if let Err(e) = check(&case, &generous, subject, &mut stats) {
             println!("DIFFERENCE in sheet {n} of seed {seed}: {e}");
@@ -27,6 +27,6 @@ pub fn compare(seed: u64, numbers: Range<u64>, subject: &mut Option<Box<dyn Subj
     for (what, by_code) in CHANGES.iter().zip(&answers) {
         println!("{what:<25} {}", codes(by_code));
     }
-    println!("library                   {} compared", stats.tested);
+    println!("library                   {} compared, and {} with the root alone", stats.tested[0], stats.tested[1]);
     true
 }

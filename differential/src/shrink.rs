@@ -3,7 +3,7 @@ use crate::gen::plan::{Body, Def, Plan, Section};
 use crate::gen::tree::{Tree, NULL_LEAF};
 use crate::gen::Case;
 use crate::model::schema::{Definitions, Schema};
-use crate::model::{build, Limits, GENEROUS};
+use crate::model::{Limits, GENEROUS};
 use std::time::{Duration, Instant};
 
 /// Tries smaller cases as long as one fails, for a minute at most.
@@ -54,7 +54,7 @@ fn candidates(c: &Case) -> Vec<Case> {
 
 /// Limits that are just enough.
 fn roomy(c: &Case) -> Limits {
-    let o = build(&c.sheet, &c.schema, &GENEROUS);
+    let o = c.within(&GENEROUS);
     let work = crate::gen::limits::work_for(o.index_entries.unwrap_or(0), o.charge);
     Limits { work, out: o.answer.as_ref().map_or(0, |p| p.file.len() as u64), records: o.remarks as u64 }
 }

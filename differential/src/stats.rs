@@ -4,6 +4,7 @@ use crate::gen::FAMILIES;
 use crate::model::nest::{Chain, CHAIN_WAYS};
 use crate::model::sheet::KINDS;
 use crate::model::Outcome;
+use crate::ways::{self, BESIDE};
 use std::collections::BTreeMap;
 
 /// An intended difference: how often it was met, and the smallest input.
@@ -59,8 +60,10 @@ pub struct Stats {
     pub remarks: [u64; 14],
     /// Those in the reference's domain.
     pub compared: u64,
-    pub tested: u64,
-    pub demand3: u64,
+    /// Each in the ordinary way, and with the root alone.
+    pub tested: [u64; 2],
+    pub demand3: [u64; 2],
+    pub alone: ways::Counts,
     pub slots: u64,
     pub pointing: u64,
     pub files: [u64; 19],
@@ -89,8 +92,9 @@ impl Stats {
             limited: [0; 19],
             remarks: [0; 14],
             compared: 0,
-            tested: 0,
-            demand3: 0,
+            tested: [0; 2],
+            demand3: [0; 2],
+            alone: ways::Counts::default(),
             slots: 0,
             pointing: 0,
             files: [0; 19],
@@ -139,8 +143,9 @@ impl Stats {
         println!("with generous limits  {}", codes(&self.generous));
         println!("with their limits     {}", codes(&self.limited));
         println!("model and reference   {} compared: none of 1, 2, 8 to 14", self.compared);
-        println!("library               {} compared", self.tested);
-        println!("read, tiled, rebuilt  {}", self.demand3);
+        println!("library               {} compared, and {} with the root alone", self.tested[0], self.tested[1]);
+        println!("read, tiled, rebuilt  {}, and {} with the root alone", self.demand3[0], self.demand3[1]);
+        self.print_alone();
         println!("pointers put          {}, of which {} stand in the pack", self.slots, self.pointing);
         println!("float texts           {} held against the parse of std, {} of them decimals", self.texts, self.decimals);
         println!("cases with decimals   {}, of them packs {}", self.decimal_cases.iter().sum::<u64>(), self.decimal_cases[1]);
@@ -156,6 +161,14 @@ impl Stats {
         for b in self.hits.unreached() {
             println!("never reached         {b}");
         }
+    }
+
+    fn print_alone(&self) {
+        let a = &self.alone;
+        let list: Vec<String> = BESIDE.iter().zip(&a.beside).map(|(what, n)| format!("{what} {n}")).collect();
+        println!("root alone            {}", list.join(", "));
+        let [others, own] = a.held;
+        println!("  and reference       {own} packs are its own, {others} are not, of which {} have its root at start 0 of an old block", a.at_start);
     }
 
     fn print_branches(&self) {

@@ -68,7 +68,7 @@ pub fn file(rng: &mut Rng, size: Size) -> Vec<u8> {
     let mut out = match rng.below(10) {
         0..=4 => {
             let (_, sheet, schema) = inputs(rng, size);
-            match build(&sheet, &schema, &GENEROUS).answer {
+            match build(rng.chance(1, 3), &sheet, &schema, &GENEROUS).answer {
                 Ok(pack) => pack.file,
                 Err(_) => schema,
             }

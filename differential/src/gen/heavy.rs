@@ -156,6 +156,10 @@ pub fn many_blocks(rng: &mut Rng, _size: Size) -> (Vec<u8>, Vec<u8>) {
         let k = rng.below(n);
         items.push(Tree::Struct(0x1_0000 + k as u32, Vec::new()));
     }
+    if rng.chance(1, 2) {
+        // The root's block is there already, and counts only where the root gets one more.
+        items.push(Tree::Struct(0x40, Vec::new()));
+    }
     let mut fields = vec![(0x41, Tree::Array(items))];
     if rng.chance(1, 2) {
         fields.push((0x42, Tree::text(b"t")));
@@ -216,7 +220,7 @@ pub fn long_files(rng: &mut Rng, _size: Size) -> (Vec<u8>, Vec<u8>) {
     let items = (0..names).map(|k| Tree::Struct(0x1000 + k, Vec::new())).collect();
     let sheet = Tree::Struct(0x40, vec![(0x41, Tree::Array(items))]).sheet();
     let schema = make(16);
-    let length = build(&sheet, &schema, &GENEROUS).answer.map_or(0, |p| p.file.len() as u64);
+    let length = build(false, &sheet, &schema, &GENEROUS).answer.map_or(0, |p| p.file.len() as u64);
     let more = (MAX_FILE - length) as u32 + rng.below(3) as u32 - 1;
     (sheet, make(16 + more))
 }

@@ -8,10 +8,17 @@ pub fn work_for(entries: usize, cap: u64) -> u64 {
     MIN_WORK + 8 * entries as u64 + 4 * cap
 }
 
+/// The pack's length; in half of the cases, where the pack with the root alone is longer, that one's.
+fn length(rng: &mut Rng, generous: &Outcome) -> u64 {
+    let Ok(pack) = &generous.answer else { return 100 };
+    let length = pack.file.len() as u64;
+    if !pack.opened() && rng.chance(1, 2) { length + 16 } else { length }
+}
+
 /// Limits for a case whose answer with generous ones is known.
 pub fn limits(rng: &mut Rng, generous: &Outcome, size: Size) -> Limits {
     let entries = generous.index_entries.unwrap_or(0);
-    let length = generous.answer.as_ref().map_or(100, |p| p.file.len() as u64);
+    let length = length(rng, generous);
     let (charge, remarks) = (generous.charge, generous.remarks as u64);
     let slack = |rng: &mut Rng, n: usize| rng.small(n) as u64;
     if generous.code() == 9 && size == Size::Full && rng.chance(1, 2) {

@@ -8,6 +8,7 @@ pub mod heavy;
 pub mod limits;
 pub mod plan;
 pub mod road;
+pub mod root;
 pub mod schema;
 pub mod sheets;
 pub mod text;
@@ -15,19 +16,32 @@ pub mod tree;
 pub mod value;
 
 use crate::model::schema::Schema;
-use crate::model::Limits;
+use crate::model::{build, Limits, Outcome};
 use crate::rng::Rng;
 use plan::Plan;
 use schema::Mood;
 use tree::Tree;
 use value::{Habit, Values};
 
-/// A call of building.
+/// A call of building; alone, the root gets a new last block.
 #[derive(Clone, Debug, PartialEq)]
 pub struct Case {
+    pub alone: bool,
     pub sheet: Vec<u8>,
     pub schema: Vec<u8>,
     pub limits: Limits,
+}
+
+impl Case {
+    /// The model's answer with these limits.
+    pub fn within(&self, limits: &Limits) -> Outcome {
+        build(self.alone, &self.sheet, &self.schema, limits)
+    }
+
+    /// The same, built in this way.
+    pub fn way(&self, alone: bool) -> Case {
+        Case { alone, ..self.clone() }
+    }
 }
 
 /// How large cases may be.
@@ -52,12 +66,13 @@ const fn family(name: &'static str, weight: usize, size: Size, make: fn(&mut Rng
     Family { name, weight, size, make }
 }
 
-pub const FAMILIES: [Family; 22] = [
+pub const FAMILIES: [Family; 23] = [
     family("general", 58_000, Size::Tiny, general),
     family("scalars and texts", 10_000, Size::Tiny, scalars),
     family("decimals", 8_000, Size::Tiny, decimal::decimals),
     family("chains of structures", 5_000, Size::Tiny, chain::chain),
     family("roads", 3_000, Size::Full, road::road),
+    family("root's own name", 6_000, Size::Tiny, root::own_name),
     family("levels of the sheet", 800, Size::Small, chain::levels),
     family("damaged sheet", 5_000, Size::Tiny, damaged_sheet),
     family("edges of rows", 6_000, Size::Tiny, edges::row_edges),

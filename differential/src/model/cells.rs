@@ -198,7 +198,7 @@ impl<'a> Writer<'a> {
             return Ok(());
         }
         self.state.pay(16 + t.len() as u64 + 1, from)?;
-        let laid = self.state.lay(1, Buffer::of([t, &[0]].concat()), from)?;
+        let laid = self.state.lay(false, 1, Buffer::of([t, &[0]].concat()), from)?;
         match subtype {
             3 => buf.put_counted(at, laid, t.len()),
             _ => buf.put_pointer(at, laid),

@@ -68,7 +68,7 @@ impl<'a> Writer<'a> {
         };
         self.state.hits.hit(case, if own { Way::OwnType } else { Way::ByReference });
         let made = self.structure(def, &self.fields_of(from.row), from, reached)?;
-        self.state.lay(def.name, made, from).map(Some)
+        self.state.lay(false, def.name, made, from).map(Some)
     }
 
     /// The element's descriptor: 16-bit index, else 12-bit.
@@ -121,7 +121,7 @@ impl<'a> Writer<'a> {
             return Ok(());
         };
         self.state.hits.hit(case, Way::Written);
-        let laid = self.state.lay(block, run, at.from())?;
+        let laid = self.state.lay(false, block, run, at.from())?;
         buf.put_counted(off, laid, n);
         Ok(())
     }
@@ -180,7 +180,7 @@ impl<'a> Writer<'a> {
         let n = pairs.len() / 2;
         let run = self.pair_run(at, pair, pairs)?;
         self.state.hits.hit(Case::Map, Way::Written);
-        let laid = self.state.lay(name, run, at.from())?;
+        let laid = self.state.lay(false, name, run, at.from())?;
         buf.put_counted(off + 8, laid, n);
         Ok(())
     }

@@ -1,4 +1,4 @@
-//! Document 01 with requests 2.1 and 2.6, written a second time: the exact answer for every input.
+//! Document 01 with requests 2.1, 2.6 and 2.10, written a second time: the exact answer for every input.
 pub mod assemble;
 pub mod buffer;
 pub mod cells;
@@ -50,6 +50,14 @@ pub struct Pack {
     pub charge: u64,
 }
 
+impl Pack {
+    /// Whether a block was opened for the root: nothing else stands in it. Its start may be 0 in another's, of items without bytes.
+    pub fn opened(&self) -> bool {
+        let root = self.items.last().map(|i| i.block);
+        self.items.iter().filter(|i| Some(i.block) == root).count() == 1
+    }
+}
+
 /// A pack or the number of its refusal, and what was passed through on the way.
 pub struct Outcome {
     pub answer: Result<Pack, u32>,
@@ -72,8 +80,8 @@ impl Outcome {
     }
 }
 
-/// 1, 2, 3; sections in file order (4, 5, 6); 7; 12; writing; last 13.
-pub fn build(sheet: &[u8], schema: &[u8], limits: &Limits) -> Outcome {
+/// 1, 2, 3; sections in file order (4, 5, 6); 7; 12; writing; last 13. Alone, the root gets a new last block.
+pub fn build(alone: bool, sheet: &[u8], schema: &[u8], limits: &Limits) -> Outcome {
     let sheet = match Sheet::read(sheet) {
         Ok(s) => s,
         Err(n) => return Outcome::early(n, None),
@@ -83,7 +91,7 @@ pub fn build(sheet: &[u8], schema: &[u8], limits: &Limits) -> Outcome {
         Err(n) => return Outcome::early(n, None),
     };
     let entries = schema.index_entries();
-    let Followed { state, answer } = match follow(&sheet, &schema, limits, &Pace::WHOLE) {
+    let Followed { state, answer } = match follow(&sheet, &schema, limits, &Pace { alone, ..Pace::WHOLE }) {
         Ok(f) => f,
         Err(n) => return Outcome::early(n, Some(entries)),
     };
@@ -100,14 +108,16 @@ pub fn build(sheet: &[u8], schema: &[u8], limits: &Limits) -> Outcome {
     Outcome { answer, hits: state.hits, charge, remarks, index_entries: Some(entries), chain }
 }
 
-/// How a layout is followed: whether refusals 8, 10 and 11 are passed over, and after how many steps it is given up.
+/// How a layout is followed: whether refusals 8, 10 and 11 are passed over, after how many steps it is given up, and whether the
+/// root gets a new last block.
 pub struct Pace {
     pub free: bool,
     pub steps: u64,
+    pub alone: bool,
 }
 
 impl Pace {
-    pub const WHOLE: Pace = Pace { free: false, steps: u64::MAX };
+    pub const WHOLE: Pace = Pace { free: false, steps: u64::MAX, alone: false };
 }
 
 /// A layout that was followed to its end or its refusal, and the file.
@@ -125,7 +135,7 @@ pub fn follow(sheet: &Sheet, schema: &Schema, limits: &Limits, pace: &Pace) -> R
     (state.free, state.steps) = (pace.free, pace.steps);
     let mut w = Writer { sheet, schema, state };
     let made = w.structure(def, &Fields::Children(0), From::ROOT, Reached::Root);
-    let laid = made.and_then(|made| w.state.lay(def.name, made, From::ROOT));
+    let laid = made.and_then(|made| w.state.lay(pace.alone, def.name, made, From::ROOT));
     let mut state = w.state;
     if laid.is_ok() {
         state.trace.close(sheet);

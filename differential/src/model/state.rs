@@ -168,13 +168,22 @@ impl State {
         Some(self.empty.len() as u32 - 1)
     }
 
-    /// Files an item in the first block of its name with room, else in a new last one; its pointer, or 10.
-    pub fn lay(&mut self, name: u32, made: Buffer, from: From) -> Result<Laid, u32> {
-        let need = made.len() as u64;
+    /// The first block of the name with room for so many bytes.
+    fn room(&mut self, name: u32, need: u64) -> Option<usize> {
         self.effort.names += self.blocks.len() as u64;
         let same = self.of_name.entry(name).or_default();
         let room = same.iter().copied().find(|i| self.blocks[*i].length + need <= MAX_BLOCK);
-        let full = room.is_none() && !same.is_empty();
+        if room.is_none() && !same.is_empty() {
+            self.hits.hit(Case::Item, Way::Full);
+        }
+        room
+    }
+
+    /// Files an item in the first block of its name with room, else in a new last one; its pointer, or 10. Alone, it is not looked
+    /// whether one has room: "a new last block".
+    pub fn lay(&mut self, alone: bool, name: u32, made: Buffer, from: From) -> Result<Laid, u32> {
+        let need = made.len() as u64;
+        let room = if alone { None } else { self.room(name, need) };
         let number = room.unwrap_or(self.blocks.len()) + 1;
         let start = room.map_or(0, |i| self.blocks[i].length);
         if number > MAX_BLOCKS || start > MAX_START {
@@ -184,9 +193,6 @@ impl State {
             return Err(GAVE_UP);
         }
         self.hits.hit(Case::Item, if room.is_some() { Way::OldBlock } else { Way::NewBlock });
-        if full {
-            self.hits.hit(Case::Item, Way::Full);
-        }
         if need > MAX_BLOCK {
             self.hits.hit(Case::Item, Way::Long);
         }

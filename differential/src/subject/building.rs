@@ -16,6 +16,36 @@ extern "C" {
         sheet: *const u8, sheet_length: usize, schema: *const u8, schema_length: usize, work: *mut u8, work_length: usize,
         out: *mut u8, out_length: usize, remarks: *mut Remark, records: usize,
     ) -> Outcome;
+    fn sandvurek_build_with(
+        root_alone: u32, sheet: *const u8, sheet_length: usize, schema: *const u8, schema_length: usize, work: *mut u8,
+        work_length: usize, out: *mut u8, out_length: usize, remarks: *mut Remark, records: usize,
+    ) -> Outcome;
+}
+
+/// Any number but 0 says that the root gets a new last block.
+const ALONE: [u32; 5] = [1, 2, 0x100, 0x8000_0000, u32::MAX];
+
+/// What `sandvurek_build_with` is told, or none where `sandvurek_build` is called: picked by the case's lengths.
+fn root_alone(case: &Case) -> Option<u32> {
+    let l = &case.limits;
+    let k = (case.sheet.len() + case.schema.len()) as u64 + l.work + l.out + l.records;
+    if case.alone {
+        return Some(ALONE[(k % 5) as usize]);
+    }
+    (k % 3 == 0).then_some(0)
+}
+
+/// The call of a case with these areas, by one of the two functions.
+unsafe fn called(case: &Case, work: *mut u8, out: *mut u8, remarks: *mut Remark) -> Outcome {
+    let (sheet, sheet_length) = (case.sheet.as_ptr(), case.sheet.len());
+    let (schema, schema_length) = (case.schema.as_ptr(), case.schema.len());
+    let [work_length, out_length, records] = [case.limits.work, case.limits.out, case.limits.records].map(|n| n as usize);
+    match root_alone(case) {
+        None => sandvurek_build(sheet, sheet_length, schema, schema_length, work, work_length, out, out_length, remarks, records),
+        Some(flag) => {
+            sandvurek_build_with(flag, sheet, sheet_length, schema, schema_length, work, work_length, out, out_length, remarks, records)
+        }
+    }
 }
 
 /// Bytes that stand in lent buffers before a call; never zero.
@@ -53,7 +83,7 @@ impl Lent {
     }
 }
 
-/// One call, timed by the caller.
+/// One call of `sandvurek_build`, timed by the caller.
 pub fn call(sheet: &[u8], schema: &[u8], work: &mut [u8], out: &mut [u8], remarks: &mut [Remark]) -> (u32, usize, usize) {
     let o = unsafe {
         sandvurek_build(
@@ -71,12 +101,7 @@ pub fn build(case: &Case) -> Result<Reply, String> {
     let mut out = Lent::new(n);
     const NOISE: Remark = Remark { kind: 0xA5A5, structure: 0xA5A5_A5A5, member: 1, detail: u32::MAX };
     let mut list = vec![NOISE; records + 2];
-    let o = unsafe {
-        sandvurek_build(
-            case.sheet.as_ptr(), case.sheet.len(), case.schema.as_ptr(), case.schema.len(), work.pointer(), case.limits.work as usize,
-            out.pointer(), n, list[1..].as_mut_ptr(), records,
-        )
-    };
+    let o = unsafe { called(case, work.pointer(), out.pointer(), list[1..].as_mut_ptr()) };
     if !work.guarded() || !out.guarded() || list[0] != NOISE || list[records + 1] != NOISE {
         return Err("bytes outside a lent buffer were written".into());
     }

@@ -7,7 +7,7 @@ use std::io::{self, ErrorKind, Read, Write};
 
 pub fn put_request(out: &mut impl Write, case: &Case) -> io::Result<()> {
     let l = &case.limits;
-    for n in [case.sheet.len() as u64, case.schema.len() as u64, l.work, l.out, l.records] {
+    for n in [case.alone as u64, case.sheet.len() as u64, case.schema.len() as u64, l.work, l.out, l.records] {
         out.write_all(&n.to_le_bytes())?;
     }
     out.write_all(&case.sheet)?;
@@ -40,12 +40,12 @@ pub fn request(from: &mut impl Read) -> io::Result<Option<Case>> {
             n => got += n,
         }
     }
-    let sheet_length = u64::from_le_bytes(first);
-    let schema_length = number(from)?;
+    let alone = u64::from_le_bytes(first) != 0;
+    let (sheet_length, schema_length) = (number(from)?, number(from)?);
     let limits = Limits { work: number(from)?, out: number(from)?, records: number(from)? };
     let sheet = bytes(from, sheet_length)?;
     let schema = bytes(from, schema_length)?;
-    Ok(Some(Case { sheet, schema, limits }))
+    Ok(Some(Case { alone, sheet, schema, limits }))
 }
 
 pub fn put_reply(out: &mut impl Write, r: &Reply) -> io::Result<()> {
