@@ -12,7 +12,7 @@
  *
  * Stack: a thread with a stack of 131,072 bytes can make every call, whatever the input. The deepest, with 95
  * structures inside one another, takes about 72,000 of them, measured on x86-64 Linux; the rest is margin, and for what
- * the thread itself needs. The functions other than sandvurek_build take some 200. */
+ * the thread itself needs. The functions that do not build take some 200. */
 #ifndef SANDVUREK_H
 #define SANDVUREK_H
 
@@ -35,7 +35,8 @@ extern "C" {
  *    8  a structure would start at depth 33, inline in 32 others: one inline in another is one deeper than the other;
  *       the root, and a structure by pointer, in a run or as a map's pair, has depth 1
  *    9  the charge would pass its cap
- *   10  an item's block number would be above 4,095, or its start above 0xFFFFF
+ *   10  an item's block number would be above 4,095, or its start above 0xFFFFF; a block that is added for the root
+ *       (sandvurek_build_with) counts
  *   11  a floating-point text other than a decimal of one to nine digits: one with an exponent, inf, infinity, nan, or
  *       ten digits or more (but where an integer is due whole numbers of up to 64 bits are read)
  *   12  work is shorter than 65,536 + 8 x i, i being the index entries of all PSCH sections
@@ -81,6 +82,23 @@ sandvurek_outcome sandvurek_build(const uint8_t *sheet, size_t sheet_length,
                                   uint8_t *work, size_t work_length,
                                   uint8_t *out, size_t out_length,
                                   sandvurek_remark *remarks, size_t remarks_length);
+
+/* Builds in one of two ways; all that is said of sandvurek_build holds here too. root_alone 0: it does just what
+ * sandvurek_build does. Any other number: the root gets a new last block, of its type's name, also where another block
+ * of that name has room; all other items keep block and start. That is for loaders that look for the root at its
+ * block's start.
+ *
+ * In a pack that is built so the root is all of its block, and its pointer is its block number, which is the number of
+ * blocks: sandvurek_read gives root equal to blocks. Where sandvurek_build opens a block for the root too, it is the
+ * same file; else it is 16 bytes longer, a row of the block list, and the data section differs only in that the root's
+ * bytes stand at its end. Remarks are the same in both ways. So are refusals, but for the root's own 10, which counts
+ * the added block, and for 13. Building the pack again in the same way, from its own schema, gives the same bytes. */
+sandvurek_outcome sandvurek_build_with(uint32_t root_alone,
+                                       const uint8_t *sheet, size_t sheet_length,
+                                       const uint8_t *schema, size_t schema_length,
+                                       uint8_t *work, size_t work_length,
+                                       uint8_t *out, size_t out_length,
+                                       sandvurek_remark *remarks, size_t remarks_length);
 
 /* What a file is. code 0: root is the block number of the root, data_at and data_length say where the data section
  * stands in the file (the last PSIN section, its head included), blocks is the number of blocks. Else code is the

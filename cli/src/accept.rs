@@ -18,6 +18,8 @@ struct Given<'a> {
     pack: Pack<'a>,
     sheet: &'a [u8],
     schema: Option<Schema<'a>>,
+    /// Whether it is said to have its root in a new last block.
+    alone: bool,
     names: &'a Names,
 }
 
@@ -26,7 +28,35 @@ impl<'a> Given<'a> {
     fn own(&self) -> Schema<'a> {
         Schema { file: self.pack.file, whose: "the pack" }
     }
+
+    fn rebuild(&self, schema: Schema) -> Result<Rebuilt, Missing> {
+        rebuild(self.alone, self.sheet, schema, self.names)
+    }
+
+    /// What the other way of packing gives, where it is as long as the pack. Where the ways differ, that with the root
+    /// alone has a row more in the block list, or is refused for its block or its length.
+    fn other_way(&self, schema: Schema, built: &Result<Vec<u8>, Missing>) -> Option<Vec<u8>> {
+        let has = self.pack.file.len();
+        let likely = match built {
+            Ok(file) if self.alone => file.len() == has + ROW,
+            Ok(file) => has == file.len() + ROW,
+            Err(why) => matches!(why, Missing::Refused(10 | 13, _)),
+        };
+        let other = likely.then(|| rebuild(!self.alone, self.sheet, schema, self.names))?.ok()?;
+        (other.file.len() == has).then_some(other.file)
+    }
+
+    /// What the other way does with the root, and how it is asked for.
+    fn advice(&self) -> &'static str {
+        match self.alone {
+            false => "its root in a block of its own: give --root-alone",
+            true => "its root in a block with other items: leave out --root-alone",
+        }
+    }
 }
+
+/// A row of the block list.
+const ROW: usize = 16;
 
 const SECTIONS: &str = "sections end to end";
 const BLOCKS: &str = "block list against the data";
@@ -91,7 +121,7 @@ fn walk(given: &Given, laid: &State, exact: bool) -> Finding {
 fn pointers(given: &Given, own: &Result<Rebuilt, Missing>) -> Finding {
     match own {
         Ok(built) => walk(given, &built.scene.state, built.scene.state.trace.lacks == 0),
-        Err(why) => match past_refusal(given.sheet, given.pack.file, why) {
+        Err(why) => match past_refusal(given.alone, given.sheet, given.pack.file, why) {
             Some(scene) => walk(given, &scene.state, false),
             None => Finding::missing(why),
         },
@@ -119,12 +149,28 @@ fn standing(pack: &Pack, at: usize) -> String {
     }
 }
 
-/// The pack and what was built are the same bytes.
-fn same_bytes(pack: &Pack, built: &Result<Rebuilt, Missing>) -> Finding {
-    let built = match built {
-        Ok(b) => &b.file,
-        Err(why) => return Finding::missing(why),
+/// The pack and what was built with a schema are the same bytes; where they are not, whether the other way gives the pack,
+/// or one as long.
+fn rebuilt(given: &Given, schema: Schema, built: Result<Rebuilt, Missing>) -> Finding {
+    let built = built.map(|b| b.file);
+    let other = given.other_way(schema, &built);
+    if other.as_ref().is_some_and(|other| other == given.pack.file) {
+        return Finding::Fail(format!("the pack was built the other way, {}", given.advice()));
+    }
+    let finding = match built {
+        Ok(built) => same_bytes(&given.pack, &built),
+        Err(why) => Finding::missing(&why),
     };
+    match finding {
+        Finding::Fail(text) if other.is_some() => {
+            Finding::Fail(format!("{text}; one that was built the other way is as long, {}", given.advice()))
+        }
+        finding => finding,
+    }
+}
+
+/// The pack and what was built are the same bytes.
+fn same_bytes(pack: &Pack, built: &[u8]) -> Finding {
     let file = pack.file;
     if let Some(at) = file.iter().zip(built).position(|(x, y)| x != y) {
         let (has, due) = (file[at], built[at]);
@@ -148,17 +194,17 @@ fn with_schema(given: &Given, built: Rebuilt, schema: Schema, list: &mut List) {
     list.add(POINTERS, walk(given, &built.scene.state, true));
     list.add(SCHEMA, Finding::of(counted(given.pack.file), definitions(given, &built, schema)));
     list.remarks = told(&built.remarks, Some(&built.scene), given.names);
-    let theirs = same_bytes(&given.pack, &Ok(built));
-    list.add(OWN, same_bytes(&given.pack, &rebuild(given.sheet, given.own(), given.names)));
+    let theirs = rebuilt(given, schema, Ok(built));
+    list.add(OWN, rebuilt(given, given.own(), given.rebuild(given.own())));
     list.add(THEIRS, theirs);
 }
 
 /// The same along the pack's own rebuild; with why nothing was built with the schema file, where one is given.
-fn without_schema(given: &Given, why: Option<Missing>, list: &mut List) {
-    let own = rebuild(given.sheet, given.own(), given.names);
+fn without_schema(given: &Given, theirs: Option<(Schema, Missing)>, list: &mut List) {
+    let own = given.rebuild(given.own());
     list.add(POINTERS, pointers(given, &own));
-    let finding = match (&why, &own) {
-        (Some(why), _) | (None, Err(why)) => Finding::missing(why),
+    let finding = match (&theirs, &own) {
+        (Some((_, why)), _) | (None, Err(why)) => Finding::missing(why),
         (None, Ok(built)) => {
             let mut faults = lacks(&built.scene.state, given.names);
             faults.join(definitions(given, built, given.own()));
@@ -166,12 +212,12 @@ fn without_schema(given: &Given, why: Option<Missing>, list: &mut List) {
         }
     };
     list.add(SCHEMA, finding);
-    list.add(OWN, same_bytes(&given.pack, &own));
-    if let Some(why) = &why {
-        list.add(THEIRS, Finding::missing(why));
-    }
     if let Ok(built) = &own {
         list.remarks = told(&built.remarks, Some(&built.scene), given.names);
+    }
+    list.add(OWN, rebuilt(given, given.own(), own));
+    if let Some((schema, why)) = theirs {
+        list.add(THEIRS, rebuilt(given, schema, Err(why)));
     }
 }
 
@@ -179,10 +225,10 @@ fn without_schema(given: &Given, why: Option<Missing>, list: &mut List) {
 fn check(given: &Given, list: &mut List) {
     list.add(SECTIONS, end_to_end(given.pack.file));
     list.add(BLOCKS, block_list(&given.pack));
-    let theirs = given.schema.map(|s| (s, rebuild(given.sheet, s, given.names)));
+    let theirs = given.schema.map(|s| (s, given.rebuild(s)));
     match theirs {
         Some((schema, Ok(built))) => with_schema(given, built, schema, list),
-        Some((_, Err(why))) => without_schema(given, Some(why), list),
+        Some((schema, Err(why))) => without_schema(given, Some((schema, why)), list),
         None => without_schema(given, None, list),
     }
 }
@@ -224,7 +270,8 @@ pub fn run(o: &Accept) -> Result<u8, Stop> {
     let schema = schema.as_deref().map(|file| Schema { file, whose: "the schema file" });
     let list = check_file(&file, |reading| {
         let mut list = List::default();
-        let given = Given { pack: Pack::of(&file, &reading), sheet: &sheet, schema, names: &names };
+        let given =
+            Given { pack: Pack::of(&file, &reading), sheet: &sheet, schema, alone: o.root_alone, names: &names };
         check(&given, &mut list);
         list
     });

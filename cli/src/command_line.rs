@@ -18,6 +18,9 @@ A text may stand for a number as a decimal like \"12.5\": a sign or none, one to
 none. A float is the nearest one to it. An integer, an enum or a flag set takes it without its fraction,
 and takes whole numbers of up to 64 bits too. A vector's text has several. Other text that reads as a
 floating-point number is refusal 11.
+With --root-alone the root gets a new last block, which it fills from its start: for loaders that look
+for it there. Where packing opens a block for the root anyway the pack is the same as without it, else it
+is 16 bytes longer. The added block counts for refusal 10. 'accept --root-alone' checks such a pack.
 With --json one object is printed: \"packs\", a list with an object for each sheet (sheet, pack, code,
 message, length, blocks, definitions, remarks, notes), then \"packed\", \"refused\" and \"failed\", how many
 sheets are so. code is 0 or the refusal's number, and null where it was not the library that stopped.
@@ -29,12 +32,16 @@ const READ_NOTES: &str = "\
 FILE is a pack, or a schema file: that has no root and no blocks (in JSON null, and an empty list).
 A definition that several names share is shown once and then referred to (\"as\" in JSON). Where definitions
 lie over one another no more is shown than the file has bytes for; the rest is counted (\"left_out\").
+Where the root starts in its block (\"root_start\" in JSON) is shown as far as the size of its structure
+tells it: the root is the last item of its block.
 Exit status: 0 shown, 1 refused or failed, 2 wrong use.";
 
 const ACCEPT_NOTES: &str = "\
 Checked line by line: sections end to end, block list against the data, pointers followed, schema
 against scene, rebuild from the pack's own schema; with --schema also a rebuild from that file.
 Give --schema: without it definitions cannot be compared with the schema file's.
+With --root-alone the rebuilds are done as 'pack --root-alone' does. A pack that was built the other way
+is not accepted, and its line says so; one that both ways give is accepted under both.
 A line that could not be checked, since the scene takes too many steps, starts with '????'.
 Exit status: 0 accepted, 1 not accepted, 2 wrong use, or it could not be checked: a file is missing or
 cannot be read, or a line could not be checked and none failed.";
@@ -106,6 +113,7 @@ fn pack() -> Command {
                 .short('o'),
             number_option("work", "BYTES", bytes, work),
             number_option("records", "N", records, "How many different remarks are taken").default_value(RECORDS),
+            switch("root-alone", "The root gets a new last block, which it fills from its start"),
             switch("strict", "A remark fails its sheet: the pack is not written"),
             switch("no-limit", "Packs a scene however many steps it takes"),
             names(),
@@ -131,6 +139,7 @@ fn accept() -> Command {
             file("pack", "PACK", "The pack"),
             file_option("sheet", "SHEET", "The sheet of its scene").required(true),
             file_option("schema", "FILE", "The schema file that it was packed with"),
+            switch("root-alone", "It was packed with --root-alone: rebuilds it the same way"),
             names(),
             switch("json", "Prints the lines and the verdict as JSON"),
             switch("quiet", "Prints failed lines and the verdict only").short('q'),

@@ -45,7 +45,8 @@ pub struct Entry {
 }
 
 extern "C" {
-    fn sandvurek_build(
+    fn sandvurek_build_with(
+        root_alone: u32,
         sheet: *const u8,
         sheet_length: usize,
         schema: *const u8,
@@ -103,13 +104,14 @@ pub struct Lent {
     pub records: usize,
 }
 
-/// Packs a sheet with a schema file.
-pub fn build(sheet: &[u8], schema: &[u8], lent: Lent) -> Result<Built, String> {
+/// Packs a sheet with a schema file, where `alone` says so with the root in a new last block.
+pub fn build(alone: bool, sheet: &[u8], schema: &[u8], lent: Lent) -> Result<Built, String> {
     let mut work = lend::<u8>(lent.work, "work area")?;
     let mut file = lend::<u8>(lent.out, "pack")?;
     let mut remarks = lend::<Remark>(lent.records, "remarks")?;
     let o = unsafe {
-        sandvurek_build(
+        sandvurek_build_with(
+            alone.into(),
             sheet.as_ptr(),
             sheet.len(),
             schema.as_ptr(),
@@ -128,17 +130,18 @@ pub fn build(sheet: &[u8], schema: &[u8], lent: Lent) -> Result<Built, String> {
     Ok(Built { code: o.code, file, remarks })
 }
 
+/// Refusals 1 to 7 and 12 come before the root is laid, in either way.
 const NOTHING: Lent = Lent { work: 0, out: 0, records: 0 };
 
 /// 0, or refusal 1, 2 or 3: a sheet that has none of them meets 7 with a schema file that is empty.
 pub fn check_sheet(sheet: &[u8]) -> Result<u32, String> {
-    let code = build(sheet, &[], NOTHING)?.code;
+    let code = build(false, sheet, &[], NOTHING)?.code;
     Ok(if code == 7 { 0 } else { code })
 }
 
 /// Whether one of 1 to 7 refuses it: what has none of them meets 12 with no work area.
 pub fn is_refused_early(sheet: &[u8], schema: &[u8]) -> bool {
-    build(sheet, schema, NOTHING).is_ok_and(|built| built.code != 12)
+    build(false, sheet, schema, NOTHING).is_ok_and(|built| built.code != 12)
 }
 
 /// A sheet whose root is a Struct of type 0 without members.
@@ -152,7 +155,7 @@ const LEAST_SHEET: [u8; 28] = {
 
 /// 0, or refusal 4, 5 or 6: a schema file that has none of them meets 7, or 12 with no work area.
 pub fn check_schema(schema: &[u8]) -> Result<u32, String> {
-    let code = build(&LEAST_SHEET, schema, NOTHING)?.code;
+    let code = build(false, &LEAST_SHEET, schema, NOTHING)?.code;
     Ok(if (4..=6).contains(&code) { code } else { 0 })
 }
 

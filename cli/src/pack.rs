@@ -80,7 +80,7 @@ impl<'a> Packing<'a> {
         if library::is_refused_early(sheet, &self.schema) {
             return Ok(None);
         }
-        let scene = match Scene::of(sheet, &self.schema, most) {
+        let scene = match Scene::of(self.o.root_alone, sheet, &self.schema, most) {
             Ok(scene) if scene.is_light() => return Ok(Some(scene)),
             Err(Lost::Refused) => return Ok(None),
             scene => scene.ok(),
@@ -98,7 +98,7 @@ impl<'a> Packing<'a> {
         let target = files::target(&job.out)?;
         let most = Lent { work: self.work, out: LONGEST_PACK, records: self.o.records };
         let scene = self.followed(job, &sheet, most)?;
-        let built = scene::build(&sheet, &self.schema, scene.as_ref(), most)
+        let built = scene::build(self.o.root_alone, &sheet, &self.schema, scene.as_ref(), most)
             .map_err(|why| Stop::failed(format!("{}: {why}", report.sheet)))?;
         if built.code != 0 {
             let message = self.refusal(job, built.code, &sheet, scene.as_ref());
@@ -124,7 +124,7 @@ pub fn run(o: &Pack) -> Result<u8, Stop> {
     let mut reports = Reports::open(o.quiet, o.json)?;
     let mut status = DONE;
     for job in &jobs {
-        let mut report = Report::of(files::shown(job.sheet), files::shown_out(&job.out));
+        let mut report = Report::of(files::shown(job.sheet), files::shown_out(&job.out), o.root_alone);
         if let Err(failure) = packing.pack(job, &mut report) {
             (report.code, report.message) = (failure.code, Some(failure.message));
             status = FAILED;

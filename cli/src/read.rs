@@ -81,7 +81,12 @@ fn write_text(v: &View, out: &mut impl Write) -> io::Result<()> {
     writeln!(out, "{}: {}", v.name, count(v.file.len() as u64, "byte"))?;
     match &v.reading {
         Some(r) => {
-            writeln!(out, "root: block {}", r.root)?;
+            let place = match v.root_start() {
+                Some(0) => ", at its start".into(),
+                Some(start) => format!(", at 0x{start:X} of it"),
+                None => String::new(),
+            };
+            writeln!(out, "root: block {} of {}{place}", r.root, r.blocks)?;
             writeln!(out, "data: {} at byte {}", count(r.data_length as u64, "byte"), commas(r.data_at as u64))?;
         }
         None => writeln!(out, "schema file: no root, no data, no blocks")?,

@@ -107,10 +107,11 @@ impl Serialize for Json<'_> {
         // The block lists of a schema file belong to no data.
         let most = pack.map_or(0, |r| r.blocks);
         let definition = |shown: Shown| Definition { view, shown };
-        let mut object = serializer.serialize_struct("file", 8)?;
+        let mut object = serializer.serialize_struct("file", 9)?;
         object.serialize_field("file", &view.name)?;
         object.serialize_field("length", &file.len())?;
         object.serialize_field("root", &pack.map(|r| r.root))?;
+        object.serialize_field("root_start", &view.root_start())?;
         object.serialize_field("data", &pack.map(|r| Part { name: None, at: r.data_at, length: r.data_length }))?;
         object.serialize_field("sections", &List(|| walk(file).map_while(Result::ok).map(part)))?;
         object.serialize_field("blocks", &List(|| (1..).zip(blocks(file)).take(most).map(block)))?;

@@ -38,10 +38,10 @@ fn lent(schema: &[u8], records: usize) -> Lent {
 }
 
 /// A scene that can be built in the time that a check may take; none where it is refused before it is laid.
-fn light(sheet: &[u8], schema: Schema) -> Result<Option<Scene>, Missing> {
+fn light(alone: bool, sheet: &[u8], schema: Schema) -> Result<Option<Scene>, Missing> {
     let what = format!("the scene with the definitions of {}", schema.whose);
     let most = commas(MOST_REMARKS as u64);
-    Err(Missing::Unchecked(match Scene::of(sheet, schema.file, lent(schema.file, MOST_REMARKS)) {
+    Err(Missing::Unchecked(match Scene::of(alone, sheet, schema.file, lent(schema.file, MOST_REMARKS)) {
         Err(Lost::Refused) => return Ok(None),
         Err(Lost::Full) => format!("{what} has more than {most} different remarks"),
         Ok(scene) if scene.answer == Err(14) => format!("{what} has more than {most} different remarks"),
@@ -63,13 +63,14 @@ fn refusal(code: u32, sheet: &[u8], schema: Schema, scene: Option<&Scene>, names
     }
 }
 
-/// Builds a sheet with the definitions of a file, with as many records as it has different remarks.
-pub fn rebuild(sheet: &[u8], schema: Schema, names: &Names) -> Result<Rebuilt, Missing> {
-    let scene = light(sheet, schema)?;
+/// Builds a sheet with the definitions of a file, with as many records as it has different remarks; where `alone` says
+/// so with the root in a new last block.
+pub fn rebuild(alone: bool, sheet: &[u8], schema: Schema, names: &Names) -> Result<Rebuilt, Missing> {
+    let scene = light(alone, sheet, schema)?;
     let records = scene.as_ref().map_or(0, |s| s.state.remarks.len());
     let most = lent(schema.file, records);
     let library::Built { code, file, remarks } =
-        scene::build(sheet, schema.file, scene.as_ref(), most).map_err(Missing::Unchecked)?;
+        scene::build(alone, sheet, schema.file, scene.as_ref(), most).map_err(Missing::Unchecked)?;
     match scene {
         Some(mut scene) if code == 0 && scene.answer.as_ref() == Ok(&file) => {
             scene.answer = Ok(Vec::new());
@@ -84,8 +85,8 @@ pub fn rebuild(sheet: &[u8], schema: Schema, names: &Names) -> Result<Rebuilt, M
 }
 
 /// A scene that is refused while it is laid, followed past the refusal to its end.
-pub fn past_refusal(sheet: &[u8], schema: &[u8], why: &Missing) -> Option<Scene> {
+pub fn past_refusal(alone: bool, sheet: &[u8], schema: &[u8], why: &Missing) -> Option<Scene> {
     let Missing::Refused(8 | 10 | 11 | 13, _) = why else { return None };
-    let scene = Scene::free(sheet, schema, lent(schema, MOST_REMARKS)).ok()?;
+    let scene = Scene::free(alone, sheet, schema, lent(schema, MOST_REMARKS)).ok()?;
     matches!(scene.answer, Ok(_) | Err(13)).then_some(scene)
 }

@@ -18,6 +18,7 @@ const MOST_NOTES: usize = 50;
 pub struct Report {
     pub sheet: String,
     pub pack: String,
+    root_alone: bool,
     pub code: Option<u32>,
     pub message: Option<String>,
     length: Option<usize>,
@@ -28,10 +29,11 @@ pub struct Report {
 }
 
 impl Report {
-    pub fn of(sheet: String, pack: String) -> Report {
+    pub fn of(sheet: String, pack: String, root_alone: bool) -> Report {
         Report {
             sheet,
             pack,
+            root_alone,
             code: None,
             message: None,
             length: None,

@@ -19,6 +19,8 @@ const NAMES_A_STEP: u64 = 64;
 /// A scene as far as it was followed.
 pub struct Scene {
     pub state: State,
+    /// Whether the root got a new last block.
+    pub alone: bool,
     /// The file, or the number of its refusal.
     pub answer: Result<Vec<u8>, u32>,
     steps: u64,
@@ -47,16 +49,16 @@ impl Lost {
 
 impl Scene {
     /// Follows a scene to its end or its refusal.
-    pub fn of(sheet: &[u8], schema: &[u8], lent: Lent) -> Result<Scene, Lost> {
-        Scene::paced(sheet, schema, lent, false)
+    pub fn of(alone: bool, sheet: &[u8], schema: &[u8], lent: Lent) -> Result<Scene, Lost> {
+        Scene::paced(alone, sheet, schema, lent, false)
     }
 
     /// Follows it past refusals 8, 10 and 11.
-    pub fn free(sheet: &[u8], schema: &[u8], lent: Lent) -> Result<Scene, Lost> {
-        Scene::paced(sheet, schema, lent, true)
+    pub fn free(alone: bool, sheet: &[u8], schema: &[u8], lent: Lent) -> Result<Scene, Lost> {
+        Scene::paced(alone, sheet, schema, lent, true)
     }
 
-    fn paced(sheet: &[u8], schema: &[u8], lent: Lent, free: bool) -> Result<Scene, Lost> {
+    fn paced(alone: bool, sheet: &[u8], schema: &[u8], lent: Lent, free: bool) -> Result<Scene, Lost> {
         let bytes = (sheet.len() + schema.len()) as u64;
         let most = STEPS + STEPS_A_BYTE * bytes;
         if index_entries(schema) > MOST_ENTRIES {
@@ -67,11 +69,11 @@ impl Scene {
         let schema = Schema::read_most(schema, schema.len() / 8).map_err(Lost::of)?;
         let limits = Limits { work: lent.work as u64, out: lent.out as u64, records: lent.records as u64 };
         let Followed { state, answer } =
-            follow(&sheet, &schema, &limits, &Pace { free, steps: most }).map_err(Lost::of)?;
+            follow(&sheet, &schema, &limits, &Pace { free, steps: most, alone }).map_err(Lost::of)?;
         match answer {
             Err(GAVE_UP) if state.full => Err(Lost::Full),
             Err(GAVE_UP) => Err(Lost::Long),
-            answer => Ok(Scene { steps: most - state.steps, state, answer, most }),
+            answer => Ok(Scene { steps: most - state.steps, state, alone, answer, most }),
         }
     }
 
@@ -106,11 +108,11 @@ fn needed(schema: &[u8], scene: Option<&Scene>, most: Lent) -> Lent {
 }
 
 /// Packs a sheet: the library is lent what the scene needs, so that little is cleared; all, where it asks for more.
-pub fn build(sheet: &[u8], schema: &[u8], scene: Option<&Scene>, most: Lent) -> Result<Built, String> {
+pub fn build(alone: bool, sheet: &[u8], schema: &[u8], scene: Option<&Scene>, most: Lent) -> Result<Built, String> {
     let lent = needed(schema, scene, most);
-    let built = library::build(sheet, schema, lent)?;
+    let built = library::build(alone, sheet, schema, lent)?;
     if built.code == 0 || lent == most {
         return Ok(built);
     }
-    library::build(sheet, schema, most)
+    library::build(alone, sheet, schema, most)
 }

@@ -27,7 +27,11 @@ pub fn place(scene: &Scene, sheet: &[u8], names: &Names) -> Option<String> {
             format!("{charge} are charged, {cost} more would be, the cap is {cap}")
         }
         Why::Block { name, number, .. } if number > MAX_BLOCKS => {
-            format!("block {} would be needed, of name {}", commas(number as u64), names.shown(name))
+            let counts = match stop.from {
+                From::ROOT if scene.alone => ": the block added for the root counts",
+                _ => "",
+            };
+            format!("block {} would be needed, of name {}{counts}", commas(number as u64), names.shown(name))
         }
         Why::Block { name, number, start } => {
             format!("start 0x{start:X} would be needed in block {number}, of name {}", names.shown(name))

@@ -2,7 +2,7 @@
 use crate::library::{self, Reading};
 use crate::names::Names;
 use crate::places;
-use crate::sections::{definitions, has_definitions, Listed};
+use crate::sections::{blocks, definitions, has_definitions, Listed};
 use crate::words::refused;
 use std::collections::hash_map::Entry;
 use std::collections::{HashMap, HashSet};
@@ -46,6 +46,18 @@ impl<'a> View<'a> {
             Some(accepted(file, &name)?)
         };
         Ok(View { name, file, reading, names })
+    }
+
+    /// Where the root starts in its block, as far as the size of its structure tells it: the root is the block's end. None
+    /// where the block runs past the data. Of several structures of a name the last counts, as in packing.
+    pub fn root_start(&self) -> Option<u32> {
+        let reading = self.reading.as_ref()?;
+        let block = blocks(self.file).nth((reading.root as usize).checked_sub(1)?)?;
+        if block.place as u64 + block.length as u64 > reading.data_length as u64 {
+            return None;
+        }
+        let root = definitions(self.file).filter(|d| !d.is_enum && d.name == block.name).last()?;
+        block.length.checked_sub(root.size)
     }
 
     /// The definitions of a kind, or of both kinds, in index order, as they are shown.

@@ -220,5 +220,5 @@ hurt 327 3; run 1 accept "$t/hurt" $with_schema --json; has out '"accepted": fal
 has out '"schema": "examples/hall/hall.schema"'
 
 # Random scenes, and every byte of a pack.
-"$tools/random" "$S" "$t" 900 >"$t/out"; has out "900 packed and accepted, 300 with the schema file, 0 not"
+"$tools/random" "$S" "$t" 900 >"$t/out"; has out "900 packed and accepted, 300 with the schema file, "; has out " in one way, 0 not"; lacks out " 0 in one way"
 "$tools/every_byte" "$S" "$hall.pso" "$hall.sheet" "$hall.schema" "$t/hurt" >"$t/out"; has out "3732 changed, 0 not refused"

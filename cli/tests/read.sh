@@ -4,7 +4,7 @@ sed -n '1s/.*: /FILE: /p;2,$p' "$t/out" >"$t/shown"; same "$t/shown" "cli/tests/
 run 0 read "$e/case1/case1.pso" --json; empty err
 sed '/"file"/d' "$t/out" >"$t/shown"; same "$t/shown" "cli/tests/case1.json"
 run 0 read "$e/hall/hall.pso"
-has out "root: block 9"; has out "  9  name 0x2FC89E62, place 228, 200 bytes"
+has out "root: block 9 of 9, at its start"; has out "  9  name 0x2FC89E62, place 228, 200 bytes"
 has out "  structure 0x2FC89E62: 200 bytes, unknown byte 0, 23 members"
 has out "    0xF977AF0D: type 0x10 map, subtype 1, offset 176, reference 0x15"
 has out "  enum 0x9C7067EA: 3 entries"; has out "    0x60B8CF37 = 2"
@@ -26,8 +26,29 @@ block() { printf '\0\0\0%b\0\0\0\20\0\0\0\0\0\0\0\4' "$1"; }
     printf 'PMAP\0\0\0\50\0\0\0\1\0\0pp\0\1\0\0\0\0\0\0'; block '\0122'
     printf 'PMAP\0\0\0\70\0\0\0\4\200\0pp\0\2\0\0\0\0\0\0'; block '\0123'; block '\0124'
 } >"$t/maps"
-run 0 read "$t/maps"; has out "root: block 4"; lacks out "  5  name"
+run 0 read "$t/maps"; ok "the root is the last" grep -qx "root: block 4 of 4" "$t/out"; lacks out "  5  name"
 for k in 1 2 3 4; do has out "  $k  name 0x5$k, place 16, 4 bytes"; done
+
+# Where the root starts is taken from its structure's size, as far as the file tells it: the root ends its block.
+root() {
+    run 0 read "$t/hurt"; ok "root: $1" grep -qx "root: $1" "$t/out"
+    run 0 read "$t/hurt" --json; has out "  \"root_start\": $2,"
+}
+hurt() { cp "$1" "$t/hurt"; shift; poke "$t/hurt" "$@"; }
+case1=$e/case1/case1.pso
+hurt "$case1" 79 2; root "block 1 of 1, at 0x2 of it" 2
+hurt "$case1" 79 0; root "block 1 of 1, at 0x4 of it" 4
+hurt "$case1" 79 5; root "block 1 of 1" null
+hurt "$case1" 67 102; root "block 1 of 1" null
+hurt "$case1" 31 0; root "block 0 of 1" null
+hurt "$e/hall/hall.pso" 439 12; root "block 10 of 9" null
+hurt "$e/hall/hall.pso" 439 3; root "block 3 of 9, at 0x14 of it" 20
+"$tools/tamper" "$case1" "$t/hurt" remove 0x40; root "block 1 of 1" null
+# A block that runs past the data tells nothing.
+hurt "$case1" 43 21; root "block 1 of 1" null
+hurt "$case1" 43 17; poke "$t/hurt" 51 5; root "block 1 of 1, at 0x1 of it" 1
+# Of several structures of its name the last counts, as in packing.
+cat "$case1" "$e/case1/case1.schema" >"$t/hurt"; poke "$t/hurt" $((96 + 27)) 1; root "block 1 of 1, at 0x3 of it" 3
 
 # A schema file, alone and among other sections, has no root and no blocks.
 run 0 read "$e/hall/hall.schema"; empty err

@@ -9,6 +9,8 @@ usage pack a.sheet; has err "missing: --schema FILE"
 usage pack a.sheet --schema; has err "--schema FILE needs a value"
 usage pack a.sheet --schema b --schema c; has err "--schema FILE stands twice"
 usage pack a.sheet --schema b --fast; has err "unknown option --fast"
+usage pack a.sheet --schema b --root-alone=yes; has err "--root-alone takes no value, 'yes' is one"
+usage pack a.sheet --schema b --root-alone --root-alone; has err "--root-alone stands twice"
 usage pack a.sheet --shema b; has err "unknown option --shema; --schema is near"
 usage pack a.sheet b.sheet --schema c -o d; has err "-o names the output of one sheet, there are 2"
 usage pack - --schema -; has err "only one file can be the standard input"
@@ -16,9 +18,11 @@ usage pack - --schema a --names -; has err "only one file can be the standard in
 usage read; has err "missing: FILE"
 usage read a b; has err "'b' is one file too many"
 usage read a --json=yes; has err "--json takes no value, 'yes' is one"
+usage read a --root-alone; has err "unknown option --root-alone"
 usage accept a; has err "missing: --sheet SHEET"
 usage accept --sheet a; has err "missing: PACK"
 usage accept - --sheet -
+usage accept a --sheet b --alone; has err "unknown option --alone"
 usage dump; has err "missing: SHEET"
 usage dump -x; has err "unknown option -x"
 usage completions; has err "missing: SHELL"
@@ -46,9 +50,9 @@ for command in pack read accept dump completions; do
     run 0 help $command; same "$t/out" "$t/help"
 done
 run 0 accept --help; has out "Give --schema: without it definitions cannot be compared with the schema file's."
-has out "2 wrong use, or it could not be checked"
+has out "2 wrong use, or it could not be checked"; has out "--root-alone"
 run 0 pack --help; for o in --schema --output --work --records --strict --names --json --quiet; do has out "$o"; done
-run 0 pack --help; has out "--no-limit"; has out 'a decimal like "12.5": a sign or none, one to nine digits'
+run 0 pack --help; has out "--no-limit"; has out "--root-alone"; has out 'a decimal like "12.5": a sign or none, one to nine digits'
 run 0 --version; has out "sandvurek 0."; empty err; cp "$t/out" "$t/version"
 run 0 -V; same "$t/out" "$t/version"
 
