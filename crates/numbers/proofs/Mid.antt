@@ -4,12 +4,11 @@ use Rattle.std.specs.Int.{byte_at, bytes_high_first}
 use Rattle.std.proofs.Common.{arith, ap, sym, ◌∙◌}
 use Rattle.std.proofs.lemmas.List.{drop-drop}
 use borrow.Rule.Slice.PartMut.{put_mid}
-use Rattle.std.proofs.lemmas.List.{append_assoc}
 use borrow.Author.Tests.{eq-eqb, ne_eqb, eqb-true, eqb-false}
 use lib.ListN.{length-take, length-drop}
 use lib.Pointwise.{pointwise}
 use native.Mathlib.Nat.{pow-le-pow_right}
-use lib.Seq.{paste, length-take-le, take_all}
+use lib.Seq.{length-take-le, take_all}
 use Rattle.numbers.specs.Words.{Bytes, number, read_at, bytes_of, over, same_bytes, name_bytes, Named}
 use Rattle.numbers.proofs.Bytes.{length_bytes, octets}
 use Rattle.numbers.proofs.Parts.{below_all}
@@ -45,13 +44,6 @@ lowest_of k v h =
     let f : 8 - (8 - k) ≡ k = omega (arith, h) in
     let g : drop (8 - k) (bytes_high_first 8 v) ≡ bytes_of k v = ap (λ (n : ℕ). drop (8 - k) (bytes_high_first n v)) (sym e) ∙ lowest (8 - k) k v in
     rw (g, f) (take_all k (bytes_of k v) (omega (arith, length_bytes k v)))
-
--- bytes that are moved, as `over` says it
-pub over_paste : (s : Bytes) (from to n m : ℕ) → m ≡ n → from + n ≤ length s → paste s to (drop from s) m ≡ over s to (take n (drop from s))
-unfolding over
-over_paste s from to n m e h =
-    let q : length (take n (drop from s)) ≡ n = length-take-le n (drop from s) (omega (arith, h, length-drop from s)) in
-    rw (e, q) (append_assoc (take to s) (take n (drop from s)) (drop (to + n) s))
 
 -- four bytes, one by one
 pub four_bytes : (n : Bytes) → length n ≡ 4 → n ≡ name_bytes n
