@@ -1,5 +1,6 @@
 -- The plan of a member, by its kind and subtype. No line here names a place of the code. Assumes nothing.
-use Rattle.std.specs.Prelude.{Option, Some, None, is_some, unwrap_or, option_map}
+use Rattle.std.specs.Prelude.{Option, Some, None, is_some, unwrap_or, option_map, ok_or, Err}
+use Rattle.std.specs.Result.{result_ok}
 use mathlib.Core.Path.{◌≡◌, refl, sym, ap, subst, ◌∙◌}
 use mathlib.Core.Logic.{◌⊎◌, inl, inr}
 use mathlib.Core.Bool.{Bool, true, false, ◌||◌}
@@ -48,6 +49,11 @@ named_own F h e name a k q = by (last_place F 1 h) (sym q ∙ a.known) where
   by : (o : Option ℕ) → Some k ≡ option_map (λ at. h) o → k ≡ h
   by None r = cc
   by (Some at) r = cc
+
+-- a name, with what is carried where there is none
+name_kept : (name : Option ℕ) (h : ℕ) → result_ok (ok_or name h) ≡ name
+name_kept None h = refl
+name_kept (Some k) h = refl
 
 -- no enum is used
 unused : (S : Schema) → Known None S
@@ -117,7 +123,7 @@ module _ (F : Bytes) (d : Def) (m : coded.Member) where
     is = λ T R S y v buf s. ap (λ (x : M Bytes). x s) (pointed_is_law T R S v buf h g);
   }
 
-  pub text_hashed : 7 ≤ m.subtype → m.subtype < 9 → Plans F d m text_member (λ y. y ≡ text_plan m) (P.Store C.Hash 4 None)
+  pub text_hashed : 7 ≤ m.subtype → m.subtype < 9 → Plans F d m text_member (λ y. y ≡ text_plan m) (P.Store C.Hash 4 (Err 0))
   text_hashed h g = record {
     exact = let t = hashed_tests h g in rw (t.0, t.1, t.2);
     order = (tt, refl, omega arith);
@@ -134,15 +140,15 @@ module _ (F : Bytes) (d : Def) (m : coded.Member) where
   }
 
   -- flags or an enum by the entries of the enum h
-  named_is : (flags : Bool) (h k : ℕ) → k ≡ enum_size m.subtype → k ≤ 4 → (en : Entries) (name : Option ℕ) → Named F h en name → (x : Plan → Type 0) → x (P.Store (named_cell flags en k) k name)
-      → Plans F d m (λ E D e v buf. named_member flags E h D e v buf) x (P.Store (named_cell flags en k) k name)
+  named_is : (flags : Bool) (h k : ℕ) → k ≡ enum_size m.subtype → k ≤ 4 → (en : Entries) (name : Option ℕ) → Named F h en name → (x : Plan → Type 0) → x (P.Store (named_cell flags en k) k (ok_or name h))
+      → Plans F d m (λ E D e v buf. named_member flags E h D e v buf) x (P.Store (named_cell flags en k) k (ok_or name h))
   named_is flags h k size few en name a x y =
       let z = named_sane flags en k few in
       record {
         exact = y;
         order = (z.0, z.1, omega (arith, few));
-        knows = λ S q. known_as S q;
-        is = λ T R S q v buf s. rw size (named_cell_law T S R D e v buf s flags h en name (a.used S q) own (a.all S q));
+        knows = λ S q. rw (name_kept name h) (known_as S q);
+        is = λ T R S q v buf s. rw (size, name_kept name h) (named_cell_law T S R D e v buf s flags h en name (a.used S q) own (a.all S q));
       }
     where
       own : (k : ℕ) → name ≡ Some k → k ≡ h
@@ -167,19 +173,19 @@ module _ (F : Bytes) (d : Def) (m : coded.Member) where
     plan_text r z a = planned_as r (rw z (record { exact = a.exact; order = a.order; knows = a.knows; is = a.is }))
 
     pub plan_enum : (size : ℕ) (en : Entries) (name : Option ℕ) → k ≡ Kinds.enumeration → size ≡ enum_size m.subtype → size ≤ 4 → Named F m.reference en name
-        → PlansKind F d m (Kinds.kind_of m.kind) (P.Store (C.Enum en size) size name)
+        → PlansKind F d m (Kinds.kind_of m.kind) (P.Store (C.Enum en size) size (ok_or name m.reference))
     unfolding plain_member IsPlan enum_member
     plan_enum size en name z q l a =
         let y = named_is false m.reference size q l en name a (NamedPlan F C.Enum (enum_size m.subtype) m.reference) (en, name, a, rw q) in
-        planned_as (P.Store (C.Enum en size) size name) (rw z (record { exact = y.exact; order = y.order; knows = y.knows; is = y.is }))
+        planned_as (P.Store (C.Enum en size) size (ok_or name m.reference)) (rw z (record { exact = y.exact; order = y.order; knows = y.knows; is = y.is }))
 
     pub plan_flags : (size : ℕ) (en : Entries) (name : Option ℕ) (h : ℕ) → k ≡ Kinds.flags → h ≡ reference_at D (low12 m.reference) → size ≡ enum_size m.subtype → size ≤ 4 → Named F h en name
-        → PlansKind F d m (Kinds.kind_of m.kind) (P.Store (C.Flags en size) size name)
+        → PlansKind F d m (Kinds.kind_of m.kind) (P.Store (C.Flags en size) size (ok_or name h))
     unfolding plain_member IsPlan flags_member
     plan_flags size en name h z g q l a =
         let b : Named F (reference_at D (low12 m.reference)) en name = subst (λ (y : ℕ). Named F y en name) g a in
         let y = named_is true (reference_at D (low12 m.reference)) size q l en name b (NamedPlan F C.Flags (enum_size m.subtype) (reference_at D (low12 m.reference))) (en, name, b, rw q) in
-        planned_as (P.Store (C.Flags en size) size name) (rw z (record { exact = y.exact; order = y.order; knows = y.knows; is = y.is }))
+        rw g (planned_as (P.Store (C.Flags en size) size (ok_or name (reference_at D (low12 m.reference)))) (rw z (record { exact = y.exact; order = y.order; knows = y.knows; is = y.is })))
 
     -- a structure, an array or a map is left to others
     pub plan_left : (k ≡ Kinds.structure) ⊎ ((k ≡ Kinds.array) ⊎ (k ≡ Kinds.map)) → PlansKind F d m (Kinds.kind_of m.kind) P.Nothing

@@ -1,5 +1,6 @@
 -- What a member that leads to no structure is, and what is planned for it.
-use Rattle.std.specs.Prelude.{ℕ, ◌^◌, ◌<◌, ◌≡◌, Bool, true, cond, eqb, Option, Some, None, is_some}
+use Rattle.std.specs.Prelude.{ℕ, ◌^◌, ◌<◌, ◌≡◌, Bool, true, cond, eqb, Option, Some, is_some, ok_or, Err}
+use Rattle.std.specs.Result.{result_ok}
 use Rattle.numbers.specs.Words.{Bytes, over}
 use Rattle.numbers.specs.Result.{ok}
 use Rattle.value.specs.Rows.{Value, Row}
@@ -52,21 +53,22 @@ plain_member E d e Kinds.other v buf = members.leaves d e 13 e.type buf
 
 -- a scalar in its cell
 abbrev pub scalar_plan : Scalar → Plan
-scalar_plan s = P.Store (scalar_cell s) (size_of s) None
+scalar_plan s = P.Store (scalar_cell s) (size_of s) (Err 0)
 
 -- a text in the structure itself
 abbrev pub fixed_plan : ℕ → Plan
-fixed_plan reference = P.Store (C.Fixed (high16 reference)) (high16 reference) None
+fixed_plan reference = P.Store (C.Fixed (high16 reference)) (high16 reference) (Err 0)
 
 -- a text, by its subtype
 abbrev pub text_plan : coded.Member → Plan
 text_plan m =
     cond (eqb m.subtype 0) (fixed_plan m.reference)
-    (cond (is_pointer_text m.subtype) P.Pointer (cond (is_hash_text m.subtype) (P.Store C.Hash 4 None) (P.Remark Faults.StringSubtype m.subtype)))
+    (cond (is_pointer_text m.subtype) P.Pointer (cond (is_hash_text m.subtype) (P.Store C.Hash 4 (Err 0)) (P.Remark Faults.StringSubtype m.subtype)))
 
--- flags or an enum in k bytes, by the entries of the enum that building finds under the name h, in any file
+-- flags or an enum in k bytes, by the entries of the enum that building finds under the name h, in any file; the plan carries h, also where
+-- there is no such enum
 abbrev pub NamedPlan : Bytes → (Entries → ℕ → Cell) → ℕ → ℕ → Plan → Type 0
-NamedPlan F cell k h r = (e : Entries) × (name : Option ℕ) × Named F h e name × (r ≡ P.Store (cell e k) k name)
+NamedPlan F cell k h r = (e : Entries) × (name : Option ℕ) × Named F h e name × (r ≡ P.Store (cell e k) k (ok_or name h))
 
 -- r is the plan of member m of structure d, by its kind
 unfoldable pub IsPlan : Bytes → Def → coded.Member → Kind → Plan → Type 0
@@ -81,7 +83,7 @@ IsPlan F d m Kinds.other r = r ≡ P.Remark Faults.MemberType m.kind
 
 -- what a plan stands for, over the sheet T
 abbrev pub planned : Bytes → Env → Plan → StructDef → Defs.Member → Value → Bytes → M Bytes
-planned T E (P.Store c size name) d e v buf = cell_member E size (cell_bytes T c) name d e v buf
+planned T E (P.Store c size name) d e v buf = cell_member E size (cell_bytes T c) (result_ok name) d e v buf
 planned T E P.Pointer d e v buf = pointer_member E d e v buf
 planned T E P.Nothing d e v buf = ret buf
 planned T E (P.Remark fault detail) d e v buf = leaves d e (fault_number fault) detail buf
@@ -99,7 +101,7 @@ Known name S = (h : ℕ) → name ≡ Some h → is_some ((winning S).enum h) �
 
 -- .. in a plan
 abbrev pub Knows : Schema → Plan → Type 0
-Knows S (P.Store c size name) = Known name S
+Knows S (P.Store c size name) = Known (result_ok name) S
 Knows S P.Pointer = Unit {0}
 Knows S P.Nothing = Unit {0}
 Knows S (P.Remark fault detail) = Unit {0}

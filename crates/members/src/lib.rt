@@ -1,22 +1,24 @@
 // Members that lead to no structure: scalars, texts, hashes, enums and flags; and look-up and remarks, which all writers share.
 #![tactic(auto)]
 
-ghost use Rattle.std.specs.Prelude.{◌≡◌, ◌+◌, ◌-◌, ◌*◌, ◌≤◌, ◌<◌, ◌^◌, leb, Ok};
+ghost use Rattle.std.specs.Prelude.{◌≡◌, ◌+◌, ◌-◌, ◌*◌, ◌≤◌, ◌<◌, ◌^◌, leb, length, Ok};
 ghost use Rattle.numbers.specs.Words.{Bytes};
 ghost use Rattle.numbers.specs.Result.{ok};
 ghost use Rattle.schema.specs.Defs.{Schema, winning};
 ghost use Rattle.schema.specs.Psch.{schema_of};
 ghost use Rattle.layout.specs.Members;
 ghost use Rattle.area.specs.Fault.{fault_number};
-ghost use Rattle.area.specs.Posts.{Open};
+ghost use Rattle.area.specs.Posts;
+ghost use Rattle.area.specs.Posts.{Safe, Open};
 ghost use Rattle.area.specs.Steps.{Notes};
 ghost use Rattle.cells.specs.Names.{def_of, member_of};
 ghost use Rattle.members.specs.Names.{defined_at, looked_is, looked_up};
 ghost use Rattle.members.specs.Posts.{remark_on, wrong_in, any_schema};
 ghost use Rattle.members.specs.Steps.{Fills};
 
-use area::Area;
 use area::fault::Fault;
+use area::notes::note;
+use area::{Area, Progress, Round};
 use cells::defs::Def;
 use cells::kinds::type_number;
 use definitions::lookup::find;
@@ -87,6 +89,29 @@ impl Target {
             self.say(area, Fault::WrongValue, type_number(self.member.kind));
         }
     }
+}
+
+// A remark of any kind on member m of structure d, for a work area whose numbers need not be in order afterwards, as area's `note` is.
+// `Target::say` keeps them so.
+pub fn say(
+    work: &mut [u8],
+    round: Round,
+    p: Progress,
+    d: Def,
+    m: Member,
+    kind: u32,
+    detail: u32,
+) -> Progress
+    requires { Safe round (length work.old) p }
+    ensures { Posts.Notes round (length work.old) p work.old (remark_on d m kind detail) result work.new }
+{
+    let r = Remark {
+        kind,
+        structure: d.name,
+        member: m.name,
+        detail,
+    };
+    note(work, round, p, r)
 }
 
 // The structure at a place, under a name.

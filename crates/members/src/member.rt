@@ -104,7 +104,7 @@ pub fn write_plain(
         (Kinds.kind_of at.now.member.kind) at.now.value buf) result area.new }
 {
     match plan_of(schema, at.structure, at.member) {
-        Plan::Store(cell, need, name) => write_cell(sheet, area, at, cell, need, name),
+        Plan::Store(cell, need, name) => write_cell(sheet, area, at, cell, need, name.ok()),
         Plan::Pointer => write_pointer(sheet, area, at),
         Plan::Nothing => Ok(()),
         Plan::Remark(fault, detail) => {

@@ -10,7 +10,6 @@ ghost use Rattle.layout.specs.Kinds;
 ghost use Rattle.layout.specs.Members;
 ghost use Rattle.layout.specs.Runs;
 ghost use Rattle.area.specs.Area.{env_of};
-ghost use Rattle.area.specs.Fault.{fault_number};
 ghost use Rattle.area.specs.Posts.{Open};
 ghost use Rattle.cells.specs.Names.{def_of, member_of};
 ghost use Rattle.cells.specs.Cells.{Sane, cell_size, cell_element};
@@ -26,10 +25,10 @@ use cells::{Cell, put_cell};
 use coerce::misfit::Misfit;
 use coerce::whole::str_of;
 use definitions::members::Member;
-use members::Target;
 use members::member::used;
 use members::rows::Rows;
 use members::slots::{slot_size, text_slot};
+use members::{Target, say};
 use numbers::refusal::Refusal;
 use value::read_row;
 
@@ -102,14 +101,22 @@ fn slot_block(sub: u8) -> u32
 }
 
 // A run that a remark stops.
-pub fn stop_run(area: &mut Area<'_>, at: &Target, fault: Fault, detail: u32)
+pub fn stop_run(area: &mut Area<'_>, at: &Target, kind: u32, detail: u32)
     requires { Open area.old.progress }
     ensures yields { (F : Bytes) → Yields any_schema area.old 1
-        (λ R S. Runs.stops (def_of F at.now.structure) (member_of at.now.member) (fault_number fault) detail) (Ok None) area.new }
+        (λ R S. Runs.stops (def_of F at.now.structure) (member_of at.now.member) kind detail) (Ok None) area.new }
     ensures work_after { (area.new.progress, area.new.bytes.now)
-        ≡ stop_in area.old.round area.old.progress area.old.bytes.now at.now.structure at.now.member (fault_number fault) detail }
+        ≡ stop_in area.old.round area.old.progress area.old.bytes.now at.now.structure at.now.member kind detail }
 {
-    at.say(area, fault, detail);
+    area.progress = say(
+        area.bytes,
+        area.round,
+        area.progress,
+        at.structure,
+        at.member,
+        kind,
+        detail,
+    );
 }
 
 // A run of texts, by the elements' subtype: by the byte itself, as document 01 has it (docs/DECISIONS.md, 18).
@@ -130,7 +137,7 @@ fn text_run(
         0 => {
             let len = high_half(x.reference);
             if len == 0 {
-                stop_run(area, at, Fault::ZeroLengthStrings, 0);
+                stop_run(area, at, Fault::ZeroLengthStrings.into(), 0);
                 return Ok(None);
             }
             cell_run(
@@ -145,7 +152,7 @@ fn text_run(
         1..=3 => pointer_text_run(sheet, area, sub, rows),
         7 | 8 => cell_run(sheet, area, Cell::Hash, 4, blocks::UINT, rows),
         _ => {
-            stop_run(area, at, Fault::StringArraySubtype, u32::from(sub));
+            stop_run(area, at, Fault::StringArraySubtype.into(), u32::from(sub));
             Ok(None)
         }
     }
@@ -221,7 +228,7 @@ pub fn plain_element_run(
         Kind::Enumeration => enum_run(sheet, schema, area, x.reference, rows),
         Kind::Structure => Ok(None),
         Kind::Array | Kind::Flags | Kind::Map | Kind::Other => {
-            stop_run(area, at, Fault::ElementType, u32::from(x.kind));
+            stop_run(area, at, Fault::ElementType.into(), u32::from(x.kind));
             Ok(None)
         }
     }

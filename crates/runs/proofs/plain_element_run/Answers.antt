@@ -91,5 +91,5 @@ returns-in-Array c =
     record {
       same = y.same;
       did = plain_strange a.round (length a.bytes.now) a.progress a.bytes.now g.sheet.now g.schema.now t.structure t.member g.x (rows_from g.rows.first g.rows.count) (kind_is c.kind_of.result) _ _ (sym c.kind_of.ensures)
-          (strange c.kind_of.result c.in-Array.is) (rw c.from.ensures at y.did);
+          (strange c.kind_of.result c.in-Array.is) (rw (c.into.ensures, c.from.ensures) at y.did);
     }

@@ -15,7 +15,7 @@ returns-then-len-eq0 c = λ F.
     let a = g.area.now in
     record {
       same = (c.stop_run.ensures.yields F).same;
-      did = texts_zero a.round (length a.bytes.now) a.progress a.bytes.now g.sheet.now F t.structure t.member g.x (rows_from g.rows.first g.rows.count) c.high_half-len.result _ _ c.in-0.is c.high_half-len.ensures.0 c.if-len-eq0.true (c.stop_run.ensures.yields F).did;
+      did = texts_zero a.round (length a.bytes.now) a.progress a.bytes.now g.sheet.now F t.structure t.member g.x (rows_from g.rows.first g.rows.count) c.high_half-len.result _ _ c.in-0.is c.high_half-len.ensures.0 c.if-len-eq0.true (rw c.into.ensures at (c.stop_run.ensures.yields F).did);
     }
 
 pub returns-else-len-eq0 : goal.returns-else-len-eq0
@@ -47,5 +47,5 @@ returns-in_default c = λ F.
     record {
       same = (c.stop_run-in_default.ensures.yields F).same;
       did = texts_strange a.round (length a.bytes.now) a.progress a.bytes.now g.sheet.now F t.structure t.member g.x (rows_from g.rows.first g.rows.count) _ _ (omega arith) (λ t. t) (λ t. t)
-          (elim c.in_default.branch [ in_default-via-then-sub-lt7 w ↦ inl (omega arith) | in_default-via-else-sub-lt7+else-sub-lt9 w ↦ inr (omega arith) ]) (rw c.from.ensures at (c.stop_run-in_default.ensures.yields F).did);
+          (elim c.in_default.branch [ in_default-via-then-sub-lt7 w ↦ inl (omega arith) | in_default-via-else-sub-lt7+else-sub-lt9 w ↦ inr (omega arith) ]) (rw (c.into-in_default.ensures, c.from.ensures) at (c.stop_run-in_default.ensures.yields F).did);
     }

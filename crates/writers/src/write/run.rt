@@ -47,7 +47,7 @@ impl Writer<'_> {
             return self.pointer_run(area, at, x.reference, rows);
         }
         let Some(inner) = look_up(self.schema, x.reference) else {
-            stop_run(area, at, Fault::NoElement, x.reference);
+            stop_run(area, at, Fault::NoElement.into(), x.reference);
             return Ok(None);
         };
         self.struct_run(area, at, inner, rows, Items::Elements)

@@ -37,12 +37,12 @@ returns-in-11 c =
 pub returns-in-14 : goal.returns-in-14
 unfolding kind_of
 returns-in-14 c =
-    let a = c.args in plan_enum a.schema.now a.d a.m _ (ap kind_of (sym c.in-14.is)) _ _ _ refl c.enum_size-size.ensures.0 c.enum_size-size.ensures.1 c.named-name.ensures
+    let a = c.args in rw c.ok_or.ensures.value (plan_enum a.schema.now a.d a.m _ (ap kind_of (sym c.in-14.is)) _ _ _ refl c.enum_size-size.ensures.0 c.enum_size-size.ensures.1 c.named-name.ensures)
 
 pub returns-in-15 : goal.returns-in-15
 unfolding kind_of
 returns-in-15 c =
-    let a = c.args in plan_flags a.schema.now a.d a.m _ (ap kind_of (sym c.in-15.is)) _ _ _ _ refl c.reference_at.ensures c.enum_size-size-in-15.ensures.0 c.enum_size-size-in-15.ensures.1 c.named-name-in-15.ensures
+    let a = c.args in rw c.ok_or-in-15.ensures.value (plan_flags a.schema.now a.d a.m _ (ap kind_of (sym c.in-15.is)) _ _ _ _ refl c.reference_at-reference.ensures c.enum_size-size-in-15.ensures.0 c.enum_size-size-in-15.ensures.1 c.named-name-in-15.ensures)
 
 pub returns-in-32 : goal.returns-in-32
 unfolding kind_of

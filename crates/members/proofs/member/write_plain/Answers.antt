@@ -26,7 +26,7 @@ returns-in-Store c =
     let t = g.at.now in
     let a = g.area.now in
     also (c.write_cell.ensures g.schema.now) (λ h. as_planned g.schema.now t.structure t.member a.round (length a.bytes.now) a.progress a.bytes.now g.sheet.now t.value (Kinds.kind_of t.member.kind) c.plan_of.result
-    (P.Store c.in-Store.cell c.in-Store.need c.in-Store.name) c.plan_of.ensures c.in-Store.is _ _ h)
+    (P.Store c.in-Store.cell c.in-Store.need c.in-Store.name) c.plan_of.ensures c.in-Store.is _ _ (rw c.ok.ensures.value at h))
 
 pub returns-in-Pointer : goal.returns-in-Pointer
 returns-in-Pointer c =

@@ -183,7 +183,7 @@ element_run-returns-in_default t c =
     let T = g.self.now.sheet.now in
     record {
       same = (c.stop_run.ensures.yields F).same;
-      did = run_missing _ _ _ _ T F g.self.now.left at.structure at.member g.x g.rows.first g.rows.count _ _ _ c.if-x-ne12.false c.if-x-eq3.false c.look_up.ensures.name_value c.in_default.is (λ F. (c.stop_run.ensures.yields F).did);
+      did = run_missing _ _ _ _ T F g.self.now.left at.structure at.member g.x g.rows.first g.rows.count _ _ _ c.if-x-ne12.false c.if-x-eq3.false c.look_up.ensures.name_value c.in_default.is (λ F. rw c.into.ensures at (c.stop_run.ensures.yields F).did);
     }
 
 pub element_run-returns : goal.element_run-returns
