@@ -20,11 +20,18 @@ fn low32(n: u64) -> u32
     (n % 0x1_0000_0000) as u32
 }
 
+// The low 32 bits of a whole number that fits.
+pub fn low_bits(x: Result<u64, Misfit>) -> Result<u32, Misfit>
+    ensures { result ≡ map_fit Names.low32 x }
+{
+    x.map(low32)
+}
+
 // The low 32 bits of a row as a whole number.
 pub fn low_of(sheet: &[u8], v: Row) -> Result<u32, Misfit>
     ensures { result ≡ map_fit Names.low32 (int_of sheet.now v) }
 {
-    int_of(sheet, v).map(low32)
+    low_bits(int_of(sheet, v))
 }
 
 // A text's number in an enum or flags place: where there is none, its names decide. Most such texts are names, and a call for each
@@ -37,7 +44,7 @@ pub fn number_text(t: &[u8]) -> Result<u32, Misfit>
     if t.is_empty() {
         return Ok(0);
     }
-    parse_int(t).map(low32)
+    low_bits(parse_int(t))
 }
 
 // A trimmed text in an enum's place. `flag_text` asks other names where there is no number: a closure for that would be no plainer.

@@ -8,16 +8,16 @@ use Rattle.numbers.specs.declared.refusal.Refusal.{Refusal}
 use Rattle.schema.specs.Sections.{PSIN}
 use Rattle.schema.specs.declared.cursor.Section.{Section}
 use Rattle.pso.specs.Reader.{Block, Seen, blocks_at, see_section}
-use Rattle.pso.specs.declared.blocks.Rows.{Rows}
+use Rattle.pso.specs.declared.blocks.Span.{Span}
 use Rattle.pso.specs.declared.parse.State.{State}
 
 -- rows in a section
-pub record InRows (P : Bytes) (bs : List Block) (r : Rows) : Type 0 where
+pub record InRows (P : Bytes) (bs : List Block) (r : Span) : Type 0 where
   pub says : bs ≡ blocks_at P r.count r.start
   pub inside : r.start + 16 * r.count ≤ length P
 
 -- .. or none
-abbrev pub Spans : Bytes → List Block → Option Rows → Type 0
+abbrev pub Spans : Bytes → List Block → Option Span → Type 0
 Spans P bs (Some r) = InRows P bs r
 Spans P bs None = bs ≡ []
 

@@ -68,15 +68,25 @@ fn row_at(p: &[u8], at: usize) -> Row
     }
 }
 
+// Where the rows of a section start in it, and how many there are.
+#[derive(Clone, Copy)]
+pub struct Span {
+    pub start: usize,
+    pub count: usize,
+}
+
 // The rows of a section: none, where it is another than PMAP or too short.
-fn rows_of(section: Section) -> Option<Rows>
+fn rows_of(section: Section) -> Option<Span>
     ensures { let P = section.entry.bytes.now in Spans P (section_blocks (read_at 4 P 0) P) result }
 {
-    if section.is(b"PMAP") {
-        read_rows(section.bytes).ok()
-    } else {
-        None
+    if !section.is(b"PMAP") {
+        return None;
     }
+    let rows = read_rows(section.bytes).ok()?;
+    Some(Span {
+        start: rows.start,
+        count: rows.count,
+    })
 }
 
 // The row n, from 0, over all PMAP sections.

@@ -14,10 +14,10 @@ use schema::cursor::{Cursor, Section};
 
 // What is known after some sections: the last PSIN section, the last PMAP section's root number, and how many blocks there are.
 #[derive(Clone, Copy)]
-struct State<'a> {
-    body: Option<Section<'a>>,
-    root: Option<u32>,
-    blocks: usize,
+pub struct State<'a> {
+    pub body: Option<Section<'a>>,
+    pub root: Option<u32>,
+    pub blocks: usize,
 }
 
 // What the reader gives: the root number, where the data section stands in the file and its length, and the number of blocks.
