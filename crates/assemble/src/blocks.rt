@@ -2,12 +2,12 @@
 // `SomeRows` is asked for by each and is no ghost field of a struct: the rows are cut out at two places, each time of a work area that
 // is whole (`SomeWhole`), and what makes such a struct would ask for the same.
 ghost use Rattle.std.specs.Prelude.{◌≡◌, ◌+◌, ◌*◌, ◌/◌, ◌^◌, ◌≤◌, ◌<◌, List, [], ◌∷◌, ◌++◌, length, take};
-ghost use Rattle.numbers.specs.Words.{read_at, bytes_of, words, over};
+ghost use Rattle.numbers.specs.Words.{read_at, bytes_of, words, over, Stands};
 ghost use Rattle.layout.specs.State.{Block, Core};
 ghost use Rattle.layout.specs.Assemble.{data_of, psin_of, block_rows, pmap_of};
 ghost use Rattle.layout.specs.Always.{total};
 ghost use Rattle.area.specs.Steps.{Same};
-ghost use Rattle.assemble.specs.Map.{Rows, SomeRows, places_of, Whole, SomeWhole};
+ghost use Rattle.assemble.specs.Map.{Rows, SomeRows, places_of, Pieces, SomePieces, Whole, SomeWhole};
 ghost use Rattle.assemble.specs.Packed.{table_at};
 
 use crate::data::write_data;
@@ -89,8 +89,41 @@ pub fn write_map(rows: &[u8], root: u32, out: &mut [u8], at: usize)
     map_rows(rows, out, at + 16);
 }
 
-// PSIN and PMAP; where PMAP ends. Of the work area only the table of places is changed.
-pub fn assemble(area: &mut Area<'_>, root: u32, out: &mut [u8]) -> usize
+// PSIN and PMAP, by a table that has the blocks' places and by where the last block ends; where PMAP ends.
+fn write_both(
+    rows: &[u8],
+    items: &[u8],
+    table: &[u8],
+    size: u32,
+    root: u32,
+    out: &mut [u8],
+) -> usize
+    requires pieces { SomePieces rows.now items.now (length table.now) (length out.old) }
+    requires placed { (bs : List Block) → Rows rows.now bs → Stands table.now 0 (words (places_of 16 bs)) × (size ≡ 16 + total bs) }
+    ensures { (c : Core) → Pieces rows.now items.now (length table.now) (length out.old) c
+        → (out.new ≡ over out.old 0 (psin_of (data_of c) ++ pmap_of root c.blocks))
+        × (result ≡ 16 + length (data_of c) + (16 + 16 * length c.blocks)) }
+{
+    let at = size as usize;
+    write_data(items, table, size, out);
+    write_map(rows, root, out, at);
+    at + (16 + 16 * (rows.len() / 8))
+}
+
+// PSIN and PMAP, from the rows of the blocks and the items; where PMAP ends. The blocks' places stand at the table's front then.
+pub fn assemble(rows: &[u8], items: &[u8], table: &mut [u8], root: u32, out: &mut [u8]) -> usize
+    requires { SomePieces rows.now items.now (length table.old) (length out.old) }
+    ensures { (c : Core) → Pieces rows.now items.now (length table.old) (length out.old) c
+        → (out.new ≡ over out.old 0 (psin_of (data_of c) ++ pmap_of root c.blocks))
+        × (table.new ≡ over table.old 0 (words (places_of 16 c.blocks)))
+        × (result ≡ 16 + length (data_of c) + (16 + 16 * length c.blocks)) }
+{
+    let size = put_places(rows, table);
+    write_both(rows, items, table, size, root, out)
+}
+
+// The same of a work area, of which only the table of places is changed.
+pub fn assemble_area(area: &mut Area<'_>, root: u32, out: &mut [u8]) -> usize
     requires { SomeWhole area.old.round area.old.progress area.old.bytes.now (length out.old) }
     ensures same { Same area.old area.new }
     ensures progress { area.new.progress ≡ area.old.progress }
@@ -99,10 +132,6 @@ pub fn assemble(area: &mut Area<'_>, root: u32, out: &mut [u8]) -> usize
         × (area.new.bytes.now ≡ over area.old.bytes.now table_at (words (places_of 16 c.blocks)))
         × (result ≡ 16 + length (data_of c) + (16 + 16 * area.old.progress.blocks)) }
 {
-    let blocks = area.progress.blocks;
-    let size = fill_table(area.bytes, blocks);
-    let at = size as usize;
-    write_data(items(area), table(area), size, out);
-    write_map(rows(area), root, out, at);
-    at + (16 + 16 * blocks)
+    let size = fill_table(area.bytes, area.progress.blocks);
+    write_both(rows(area), items(area), table(area), size, root, out)
 }

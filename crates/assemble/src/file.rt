@@ -9,7 +9,7 @@ ghost use Rattle.assemble.specs.Map.{places_of};
 ghost use Rattle.psch.specs.Used.{Counts};
 ghost use Rattle.assemble.specs.Packed.{lengths_in, length_of, Holds, Fitting, SomeFitting, table_at, InUse, rows_wiped, names_wiped, all_wiped};
 
-use crate::blocks::assemble;
+use crate::blocks::assemble_area;
 use crate::parts::rows;
 use area::{Area, NAMES, PLACES, REMARKS, Round};
 use numbers::words::{clear, read};
@@ -53,7 +53,7 @@ pub fn put_file(schema: &[u8], area: &mut Area<'_>, pointer: u32, out: &mut [u8]
         → (out.new ≡ over out.old 0 (file_of (winning S) pointer s.core))
         × (area.new.bytes.now ≡ over area.old.bytes.now table_at (words (places_of 16 s.core.blocks))) }
 {
-    let end = assemble(area, pointer % 4096, out);
+    let end = assemble_area(area, pointer % 4096, out);
     put_schema(schema, area, &mut out[end..]);
 }
 

@@ -1,46 +1,33 @@
 -- `assemble::blocks::assemble` meets its contract. Assumes nothing.
-use Prim.Native.Nat.{◌+◌}
-use mathlib.Core.Path.{◌≡◌, refl, ap, ◌∙◌}
 use native.Mathlib.Omega.{arith}
+use mathlib.Core.Path.{sym, subst}
 use lib.ListN.{length}
-use Rattle.numbers.specs.Words.{over}
-use Rattle.layout.specs.Assemble.{data_of}
-use Rattle.assemble.proofs.Heads.{psin_right, rows_first, table_rows, length_first, table_ready, size_is, both_whole}
+use Rattle.assemble.specs.Map.{Pieces, SomePieces}
+use Rattle.assemble.proofs.Maps.{table_stands}
+use Rattle.assemble.proofs.Heads.{count_rows, as_many}
 use Rattle.assemble.proofs.blocks.assemble.Goals as goal
 
-pub fill_table-size-requires-clause-some_rows : goal.fill_table-size-requires-clause-some_rows
-fill_table-size-requires-clause-some_rows c = record { blocks = c.requires.core.blocks; held = rows_first c.requires.held }
+pub put_places-size-requires : goal.put_places-size-requires
+put_places-size-requires c =
+    let P = c.requires.held in
+    record { some_rows = record { blocks = c.requires.core.blocks; held = P.blocks }; room = omega (arith, count_rows P, P.table) }
 
-pub write_data-requires : goal.write_data-requires
-write_data-requires c =
-    let k = c.requires.core in
-    let w = c.requires.held in
-    let f = c.fill_table-size.ensures k.blocks (rows_first w) in
-    rw (c.items.ensures, c.table.ensures) record { core = k; ready = table_ready w _ f.0 }
-
-pub write_map-requires : goal.write_map-requires
-write_map-requires c =
-    let k = c.requires.core in
-    let w = c.requires.held in
-    let f = c.fill_table-size.ensures k.blocks (rows_first w) in
-    let n = length_first w _ f.0 in
-    rw c.rows.ensures
+pub write_both-requires : goal.write_both-requires
+write_both-requires c =
+    let a = c.args in
+    let P = c.requires.held in
+    let f = c.put_places-size in
     record {
-      some_rows = record { blocks = k.blocks; held = table_rows w _ f.0 };
-      room = (omega (arith, f.1, size_is w, n, w.fits, c.write_data.auto.out), omega (arith, n, w.few));
+      pieces = subst (λ n. SomePieces a.rows.now a.items.now n (length a.out.now)) (sym f.auto.table) c.requires;
+      placed = λ bs r.
+          let g = f.ensures bs r in
+          (table_stands a.table.now f.new.table 0 bs (omega (arith, as_many P bs r, P.table)) g.0, g.1);
     }
 
-pub returns-clause-whole : goal.returns-clause-whole
-returns-clause-whole c =
-    λ k w.
-    let o = c.args.out.now in
-    let f = c.fill_table-size.ensures k.blocks (rows_first w) in
-    let d = rw (c.items.ensures, c.table.ensures) at c.write_data.ensures in
-    let m = rw c.rows.ensures at c.write_map.ensures in
-    let z : c.fill_table-size.result ≡ 16 + length (data_of k) = f.1 ∙ size_is w in (
-      both_whole w o c.write_data.new.out c.write_map.new.out c.args.root c.fill_table-size.result refl z
-          (d k (table_ready w _ f.0) ∙ ap (over o 0) (psin_right (data_of k) c.fill_table-size.result z))
-          (m k.blocks (table_rows w _ f.0)),
-      f.0,
-      omega (arith, z),
-    )
+pub returns : goal.returns
+returns c =
+    λ k P.
+    let a = c.args in
+    let f = c.put_places-size in
+    let b = c.write_both.ensures k (subst (λ n. Pieces a.rows.now a.items.now n (length a.out.now) k) (sym f.auto.table) P) in
+    (b.0, (f.ensures k.blocks P.blocks).0, b.1)
