@@ -1,28 +1,32 @@
--- Records that are zero from a place on.
-use Rattle.std.proofs.Common.{◌≡◌, ℕ, ◌≤◌, ◌-◌, List, [], ◌++◌, length, take, drop, replicate, min, arith, refl, sym, ap, ◌∙◌}
-use Rattle.std.proofs.lemmas.List.{take_min}
-use mathlib.Core.List.{append-nil}
-use borrow.Rule.Slice.PartMut.{put_mid}
-use lib.ListN.{length-drop, drop_of_length-le}
-use lib.Seq.{length-take-le}
+-- Records that become zero, one after the other.
+use mathlib.Core.Path.{◌≡◌, refl, sym, ap, ◌∙◌}
+use Prim.Native.Nat.{ℕ, ◌<◌, ◌≤◌, ◌+◌, ◌-◌}
+use native.Mathlib.Numerals.{add-one}
+use native.Mathlib.Omega.{arith}
+use mathlib.Core.List.{[], ◌∷◌, ◌++◌, List, append_assoc, append-nil}
+use lib.ListN.{length, set, take, replicate, length-append, replicate-append-replicate}
+use lib.Seq.{take_all, take-suc-set, length-take-le}
 use Rattle.layout.specs.Build.{zero_remark, filled}
 use Rattle.layout.specs.declared.Remark.{Remark}
 
 -- a record of zeros
-zero_is : (a b c d : ℕ) → (a ≡ 0) × ((b ≡ 0) × ((c ≡ 0) × (d ≡ 0))) → (record { kind = a; structure = b; member = c; detail = d }) ≡ zero_remark
-zero_is a b c d h = rw (h.0, h.1.0, h.1.1.0, h.1.1.1) refl
+pub zero_is : (r : Remark) → (r.kind ≡ 0) × ((r.structure ≡ 0) × ((r.member ≡ 0) × (r.detail ≡ 0))) → r ≡ zero_remark
+zero_is r h = rw (h.0, h.1.0, h.1.1.0, h.1.1.1) refl
 
--- a list whose part from m on was filled with zeros
-pub zeros_behind : (from m : ℕ) (xs ys : List Remark) (r : Remark) → m ≡ min from (length xs) → (r.kind ≡ 0) × ((r.structure ≡ 0) × ((r.member ≡ 0) × (r.detail ≡ 0)))
-    → ys ≡ replicate (length (take (length xs - m) (drop m xs))) r → put_mid m (length xs - m) xs ys ≡ filled (length xs) (take from xs)
+-- one more zero
+pub one_zero : (n i : ℕ) (zs : List Remark) → length zs ≡ n → i < n → filled n (take (i + 1) (set zs i zero_remark)) ≡ filled n (take i zs)
 unfolding filled
-zeros_behind from m xs ys r e z y =
-    let n = length xs in
-    let le : m ≤ n = omega (arith, e) in
-    let front : take m xs ≡ take from xs = ap (λ (k : ℕ). take k xs) e ∙ take_min from xs in
-    let mid : length (take (n - m) (drop m xs)) ≡ n - m = length-take-le (n - m) (drop m xs) (omega (arith, length-drop m xs)) in
-    let long : length (take from xs) ≡ m = ap length (sym front) ∙ length-take-le m xs le in
-    let none : drop (n - m) (drop m xs) ≡ [] = drop_of_length-le (drop m xs) (omega (arith, length-drop m xs)) in
-    ap (λ (zs : List Remark). take m xs ++ (ys ++ zs)) none
-    ∙ ap (λ (zs : List Remark). take m xs ++ zs) (append-nil ys ∙ y ∙ ap (replicate (length (take (n - m) (drop m xs)))) (zero_is r.kind r.structure r.member r.detail z) ∙ ap (λ (k : ℕ). replicate k zero_remark) (mid ∙ ap (λ (k : ℕ). n - k) (sym long)))
-    ∙ ap (λ (zs : List Remark). zs ++ replicate (n - length (take from xs)) zero_remark) front
+one_zero n i zs l h =
+    let xs : List Remark = take i zs in
+    let lx : length xs ≡ i = length-take-le i zs (omega (arith, l, h)) in
+    let e : take (i + 1) (set zs i zero_remark) ≡ xs ++ (zero_remark ∷ []) = ap (λ (j : ℕ). take j (set zs i zero_remark)) (add-one i) ∙ take-suc-set zs i zero_remark (omega (arith, l, h)) in
+    let m : 1 + (n - length (xs ++ (zero_remark ∷ []))) ≡ n - length xs = omega (arith, length-append xs (zero_remark ∷ []), lx, h) in
+    ap (λ (ys : List Remark). ys ++ replicate (n - length ys) zero_remark) e ∙ append_assoc xs (zero_remark ∷ []) (replicate (n - length (xs ++ (zero_remark ∷ []))) zero_remark)
+    ∙ ap (λ (ys : List Remark). xs ++ ys) (replicate-append-replicate 1 (n - length (xs ++ (zero_remark ∷ []))) zero_remark ∙ ap (λ (k : ℕ). replicate k zero_remark) m)
+
+-- none is left
+pub no_more_zeros : (n i : ℕ) (zs : List Remark) → length zs ≡ n → n ≤ i → zs ≡ filled n (take i zs)
+unfolding filled
+no_more_zeros n i zs l h =
+    let z : n - length zs ≡ 0 = omega (arith, l) in
+    sym (append-nil zs) ∙ ap (λ (k : ℕ). zs ++ replicate k zero_remark) (sym z) ∙ ap (λ (ys : List Remark). ys ++ replicate (n - length ys) zero_remark) (sym (take_all i zs (omega (arith, l, h))))
