@@ -128,9 +128,12 @@ pub struct Decimal {
     pub places: u32,
 }
 
-/// An optional sign, one to nine digits in all and at most one point.
+/// An optional sign, one to nine digits in all and at most one point. A longer text is none, and is not walked over.
 pub fn decimal(t: &[u8]) -> Option<Decimal> {
     let number = after_sign(t);
+    if number.len() > 10 {
+        return None;
+    }
     let point = number.iter().position(|b| *b == b'.').unwrap_or(number.len());
     let (front, behind) = (&number[..point], number.get(point + 1..).unwrap_or(&[]));
     let digits = || front.iter().chain(behind);
