@@ -36,7 +36,8 @@ fn vector(t: &str, wanted: usize) -> Fit<[u32; 4]> {
         }
         all.push(x.value);
     }
-    let enough = all.len() >= wanted;
+    // No part at all is too few.
+    let enough = all.len() >= wanted.max(1);
     all.resize(all.len().max(4), 0);
     of(enough.then(|| [all[0], all[1], all[2], all[3]]))
 }
@@ -55,7 +56,7 @@ fn one(t: &str) {
     let s = row(t);
     same("float_of", t, leaf::float_of(&s), single(t.trim()));
     same("int_of", t, leaf::int_of(&s), whole(t.trim()));
-    for wanted in 2..=4 {
+    for wanted in 0..=4 {
         same("vec_of", (t, wanted), leaf::vec_of(&s, wanted), vector(t, wanted));
     }
 }

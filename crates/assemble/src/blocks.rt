@@ -1,6 +1,6 @@
 // The blocks' rows: the table of places, PMAP, and PSIN and PMAP together.
-// `SomeRows` is asked for by each and is no ghost field of a struct: the rows are cut out at two places, each time of a work area that
-// is whole (`SomeWhole`), and what makes such a struct would ask for the same.
+// `SomeRows` is asked for by each and is no ghost field of a struct: the rows come from a caller, or are cut out of a work area that is
+// whole (`SomeWhole`), and what makes such a struct would ask for the same.
 ghost use Rattle.std.specs.Prelude.{◌≡◌, ◌+◌, ◌*◌, ◌/◌, ◌^◌, ◌≤◌, ◌<◌, List, [], ◌∷◌, ◌++◌, length, take};
 ghost use Rattle.numbers.specs.Words.{read_at, bytes_of, words, over, Stands};
 ghost use Rattle.layout.specs.State.{Block, Core};

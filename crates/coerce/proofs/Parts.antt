@@ -1,5 +1,5 @@
 -- A text's parts as the numbers of a vector, one part at a time. Assumes nothing.
-use Rattle.std.specs.Prelude.{◌≡◌, true, false, cond, List, [], ◌∷◌, ◌++◌, ℕ, suc, ◌+◌, ◌≤◌, ◌<◌, leb, length, take, drop, replicate, get_or, ◌==◌, Ok, Err}
+use Rattle.std.specs.Prelude.{◌≡◌, true, false, cond, List, [], ◌∷◌, ◌++◌, ℕ, suc, ◌+◌, ◌≤◌, ◌<◌, leb, length, take, drop, replicate, max, get_or, ◌==◌, Ok, Err}
 use Rattle.std.proofs.lemmas.List.{drop_more, at_drop_all}
 use mathlib.Core.Path.{refl, sym, ap, ◌∙◌}
 use native.Mathlib.Nat.{add-zero}
@@ -40,10 +40,10 @@ put_four (a ∷ b ∷ c ∷ d ∷ xs) = put_full (a ∷ b ∷ c ∷ d ∷ []) 4 
 abbrev pub left : ℕ → List ℕ → ℕ → List Bytes → Fit (List ℕ)
 left n v m ps = fit_then (each_fit float_text ps) (λ xs. cond (leb n (m + length xs)) (Ok (put v m xs)) (Err Unfit))
 
-left_first : (n : ℕ) (ps : List Bytes) → left n zeros 0 ps ≡ vec_text n ps
+left_first : (n : ℕ) (ps : List Bytes) → left (max n 1) zeros 0 ps ≡ vec_text n ps
 unfolding vec_text
 left_first n ps = same_then (each_fit float_text ps) _ _ all where
-  all : (xs : List ℕ) → cond {A = Fit (List ℕ)} (leb n (0 + length xs)) (Ok (put zeros 0 xs)) (Err Unfit) ≡ four_of (leb n (length xs)) xs
+  all : (xs : List ℕ) → cond {A = Fit (List ℕ)} (leb (max n 1) (0 + length xs)) (Ok (put zeros 0 xs)) (Err Unfit) ≡ four_of (leb (max n 1) (length xs)) xs
   all xs =
       let e : 0 + length xs ≡ length xs = omega arith in
       rw (e, put_four xs)
@@ -70,7 +70,7 @@ left_end n v m = rw add-zero
 abbrev pub parts_from : Bytes → ℕ → List Bytes
 parts_from s i = non_empty (drop i (split s))
 
-pub parts_first : (n : ℕ) (s : Bytes) → left n zeros 0 (parts_from s 0) ≡ vec_text n (parts s)
+pub parts_first : (n : ℕ) (s : Bytes) → left (max n 1) zeros 0 (parts_from s 0) ≡ vec_text n (parts s)
 unfolding parts
 parts_first n s = left_first n (non_empty (split s))
 

@@ -22,7 +22,7 @@ fn placed(v: [u32; 4], i: usize, x: u32) -> [u32; 4]
     v
 }
 
-// A text's parts as f32s, all of them in order; n are wanted, the first four are given.
+// A text's parts as f32s, all of them in order; n are wanted, and one at least, the first four are given.
 fn vec_text(s: &[u8], n: usize) -> Result<[u32; 4], Misfit>
     ensures { result ≡ Numbers.vec_text n (parts s.now) }
 {
@@ -35,7 +35,7 @@ fn vec_text(s: &[u8], n: usize) -> Result<[u32; 4], Misfit>
         v = placed(v, m, float_text(part)?);
         m += 1;
     }
-    if n <= m {
+    if n.max(1) <= m {
         return Ok(v);
     }
     Err(Misfit::Unfit)

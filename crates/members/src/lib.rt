@@ -91,8 +91,8 @@ impl Target {
     }
 }
 
-// A remark of any kind on member m of structure d, for a work area whose numbers need not be in order afterwards, as area's `note` is.
-// `Target::say` keeps them so.
+// A remark of any kind on member m of structure d. It asks for a safe work area alone, as area's `note` does; `Target::say` asks that the
+// remark is paid for, and keeps the area's numbers in order.
 pub fn say(
     work: &mut [u8],
     round: Round,

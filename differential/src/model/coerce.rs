@@ -107,9 +107,9 @@ impl Sheet<'_> {
             VEC2 => Fits([row.a, row.b, 0, 0]),
             VEC3 => Fits([row.a, row.b, row.c, 0]),
             VEC4 => Fits([row.a, row.b, row.c, row.d]),
-            // Of an Array four items are looked at, of a text all parts.
+            // Of an Array four items are looked at, of a text all parts; no part at all is too few.
             ARRAY => four(self.children(row).take(4).map(|r| self.float_of(&self.rows[r])), |x| x, wanted),
-            STR => four(parts(self.text(row)).map(|p| float_text(p, |d| d)), f32_of_decimal, wanted),
+            STR => four(parts(self.text(row)).map(|p| float_text(p, |d| d)), f32_of_decimal, wanted.max(1)),
             _ => Unfit,
         }
     }
