@@ -5,14 +5,14 @@ use native.Mathlib.Omega.{arith}
 use lib.ListN.{length}
 use Rattle.numbers.specs.Words.{over}
 use Rattle.layout.specs.Assemble.{data_of}
-use Rattle.assemble.proofs.Heads.{psin_right, count_rows, table_ready, size_is, both_whole}
+use Rattle.assemble.proofs.Heads.{psin_right, count_rows, pieces_ready, size_is, both_whole}
 use Rattle.assemble.proofs.blocks.write_both.Goals as goal
 
 pub write_data-requires : goal.write_data-requires
 write_data-requires c =
     let k = c.requires.pieces.core in
     let P = c.requires.pieces.held in
-    record { core = k; ready = table_ready P c.args.table.now (c.requires.placed k.blocks P.blocks).0 }
+    record { core = k; ready = pieces_ready P c.args.table.now (c.requires.placed k.blocks P.blocks).0 }
 
 pub write_map-requires : goal.write_map-requires
 write_map-requires c =
@@ -37,7 +37,7 @@ returns c =
     let p = c.requires.placed k.blocks P.blocks in
     let z : a.size ≡ 16 + length (data_of k) = p.1 ∙ size_is P in (
       both_whole P a.out.now c.write_data.new.out c.write_map.new.out a.root a.size refl z
-          (c.write_data.ensures k (table_ready P a.table.now p.0) ∙ ap (over a.out.now 0) (psin_right (data_of k) a.size z))
+          (c.write_data.ensures k (pieces_ready P a.table.now p.0) ∙ ap (over a.out.now 0) (psin_right (data_of k) a.size z))
           (c.write_map.ensures k.blocks P.blocks),
       omega (arith, z, count_rows P),
     )
